@@ -1,0 +1,94 @@
+-- Powers and steps that grow by a power of 2, for either kind: the one place where the kinds are told apart is `power-shift`.
+-- Assumes nothing.
+use mathlib.Core.Path.{_≡_, refl, sym, ap, _∙_}
+use Prim.Native.Nat.{ℕ, zero, suc, _+_, _-_, _*_, _%_, _^_, _≤_, _<_}
+use native.Mathlib.Nat.{mul-sub, mul-suc, pow-suc, mul-comm, mul-assoc, mul-le-mul, mul-le-mul-left, mul-le-mul-right}
+use native.Mathlib.Omega.{arith}
+use lib.Pow.{pow-pos, pow-add, pow-mono, shl-exact}
+use Rattle.line.specs.declared.Kind.{Kind}
+use Rattle.line.specs.declared.Kind.the-variants.{Pair, Single}
+use Rattle.line.specs.declared.Tone.{Tone}
+use Rattle.line.specs.Tone.{mostCap, powerOf, doublingsOf, doublings, carried, InRange, Cost, power, step}
+
+four-pow : (b : ℕ) → 4 ^ b ≡ 2 ^ (2 * b)
+four-pow zero = refl
+four-pow (suc b) =
+    let e : 2 * suc b ≡ 2 * b + 2 = omega arith in
+    omega (arith, pow-suc 4 b, four-pow b, ap (λ (n : ℕ). 2 ^ n) e ∙ pow-add 2 (2 * b) 2)
+
+-- the power of b bits is the cost shifted by so many doublings, less the cost
+pub power-shift : (k : Kind) (w b : ℕ) → powerOf k w b ≡ w * 2 ^ (doublingsOf k * b) - w
+unfolding powerOf
+power-shift (Pair n) w b =
+    let e : 1 * b ≡ b = omega arith in
+    rw (mul-sub w (2 ^ b) 1, e) (omega arith)
+power-shift (Single n) w b = rw (mul-sub w (4 ^ b) 1, four-pow b) (omega arith)
+
+doublings-low : (k : Kind) → 1 ≤ doublingsOf k
+doublings-low (Pair n) = omega arith
+doublings-low (Single n) = omega arith
+
+pub doublings-high : (k : Kind) → doublingsOf k ≤ 2
+doublings-high (Pair n) = omega arith
+doublings-high (Single n) = omega arith
+
+shift-high : (k : Kind) (b cap : ℕ) → b ≤ cap → cap ≤ mostCap k → doublingsOf k * b ≤ 15
+shift-high (Pair n) b cap h l = omega arith
+shift-high (Single n) b cap h l = omega arith
+
+-- ---- for any number of doublings d
+
+module _ (w d b : ℕ) where
+  -- what one bit more adds
+  step-shift : (w * 2 ^ (d * suc b) - w) - (w * 2 ^ (d * b) - w) ≡ (w * 2 ^ d - w) * 2 ^ (d * b)
+  step-shift =
+      let x : ℕ = 2 ^ (d * b) in
+      let g : ℕ = 2 ^ d in
+      let h : ℕ = w * g - w in
+      let e : 2 ^ (d * suc b) ≡ x * g = ap (λ (n : ℕ). 2 ^ n) (mul-suc d b) ∙ pow-add 2 (d * b) d in
+      let lx : w * 1 ≤ w * x = mul-le-mul-left w (pow-pos (d * b)) in
+      let lg : w * 1 ≤ w * g = mul-le-mul-left w (pow-pos d) in
+      let hw : h + w ≡ w * g = omega arith in
+      rw e (omega (arith, ap (λ (n : ℕ). n * x) hw))
+
+  steps-rise : 1 ≤ w → 1 ≤ d → (w * 2 ^ d - w) * 2 ^ (d * b) < (w * 2 ^ d - w) * 2 ^ (d * suc b)
+  steps-rise wl dl =
+      let x : ℕ = 2 ^ (d * b) in
+      let h : ℕ = w * 2 ^ d - w in
+      let two : 2 ≤ 2 ^ d = pow-mono {i = 1} dl in
+      let hl : w ≤ h = omega (arith, mul-le-mul-left w two) in
+      let xl : 1 ≤ x = pow-pos (d * b) in
+      let e : 2 ^ (d * suc b) ≡ x * 2 ^ d = ap (λ (n : ℕ). 2 ^ n) (mul-suc d b) ∙ pow-add 2 (d * b) d in
+      let s : 1 ≤ h * x = mul-le-mul {n₁ = 1} {m₁ = 1} (omega arith) xl in
+      rw e (omega (arith, mul-le-mul-left (h * x) two))
+
+-- ---- for either kind
+
+pub power-is : (t : Tone) (w b : ℕ) → power t w b ≡ w * 2 ^ (doublings t * b) - w
+power-is t w b = power-shift (t .kind) w b
+
+pub step-is : (t : Tone) (w b : ℕ) → step t w b ≡ (w * 2 ^ doublings t - w) * 2 ^ (doublings t * b)
+step-is t w b = rw (power-is t w (suc b), power-is t w b) (step-shift w (doublings t) b)
+
+pub power-grows : (t : Tone) (w b : ℕ) → power t w b ≤ power t w (suc b)
+power-grows t w b =
+    let l : doublings t * b ≤ doublings t * suc b = omega (arith, mul-suc (doublings t) b) in
+    rw (power-is t w (suc b), power-is t w b) (omega (arith, mul-le-mul-left w (pow-mono l)))
+
+-- the steps of a tone of either kind rise strictly
+pub step-rises : (t : Tone) (w b : ℕ) → 1 ≤ w → step t w b < step t w (suc b)
+step-rises t w b l =
+    rw (step-is t w b, step-is t w (suc b)) (steps-rise w (doublings t) b l (doublings-low (t .kind)))
+
+pub power-zero : (t : Tone) (w : ℕ) → power t w 0 ≡ 0
+power-zero t w = let e : doublings t * 0 ≡ 0 = omega arith in rw (power-is t w 0, e) (omega arith)
+
+-- ---- the code's shifts
+
+-- a shift that the ranges allow
+pub shift-at-most : (t : Tone) (d b : ℕ) → d ≡ doublings t → b ≤ carried t .cap → InRange t → d * b ≤ 15
+shift-at-most t d b e h I = rw e (shift-high (t .kind) b (carried t .cap) h (I .cap-high))
+
+-- a shift by s, which loses no bit
+pub shift-exact : {v : ℕ} (s : ℕ) → v < 2 ^ 26 → s ≤ 15 → (v * 2 ^ s) % 2 ^ 64 ≡ v * 2 ^ s
+shift-exact s l h = shl-exact 26 s 64 l (omega arith)

@@ -1,0 +1,4 @@
+pub mod Ceiling
+pub mod Largest
+pub mod Growth
+pub mod Limits

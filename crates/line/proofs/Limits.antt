@@ -1,0 +1,51 @@
+-- The limit of a tone is what document 01 calls it, and the number of bits at which the search stops.
+-- Assumes nothing.
+use mathlib.Core.Path.{_≡_, sym}
+use Prim.Native.Nat.{ℕ, suc, _≤_, _<_}
+use native.Mathlib.Nat.{le-of-suc-le-suc, lt-of-not-le, not-le-of-lt, le-trans}
+use native.Mathlib.Decide.{decLe, le-ind}
+use native.Mathlib.Omega.{arith}
+use Rattle.line.specs.declared.Kind.{Kind}
+use Rattle.line.specs.declared.Kind.the-variants.{Pair, Single}
+use Rattle.line.specs.declared.Tone.{Tone}
+use Rattle.line.specs.Tone.{carried, mostCap, InRange, power, largest, limit}
+use Rattle.line.proofs.Largest.{Largest, largest-is, largest-unique}
+use Rattle.line.proofs.Growth.{power-zero, power-grows}
+
+mostCap-high : (k : Kind) → mostCap k ≤ 15
+mostCap-high (Pair n) = omega arith
+mostCap-high (Single n) = omega arith
+
+pub cap-high : {t : Tone} → InRange t → carried t .cap ≤ 15
+cap-high {t} I = omega (arith, I .cap-high, mostCap-high (t .kind))
+
+module _ (t : Tone) (w : ℕ) where
+  pub power-mono : {b c : ℕ} → b ≤ c → power t w b ≤ power t w c
+  power-mono {b} {c} h =
+      le-ind (λ (n : ℕ). power t w b ≤ power t w n) (omega arith) (λ n l p. le-trans p (power-grows t w n)) c h
+
+  -- 'the largest b that is at most the cap and has power at most the mask'
+  pub limit-is : Largest (λ b. power t w b ≤ carried t .mask) (carried t .cap) (limit t w)
+  unfolding limit
+  limit-is = largest-is (λ b. decLe (power t w b) (carried t .mask)) (omega (arith, power-zero t w)) (carried t .cap)
+
+  -- b bits have been tried, and are within the cap and the mask
+  pub record Tried (b : ℕ) : Type 0 where
+    pub at-most : b ≤ carried t .cap
+    pub under : power t w b ≤ carried t .mask
+
+  -- the mask does not allow one bit more
+  pub mask-stops : {b : ℕ} → Tried b → carried t .mask < power t w (suc b) → b ≡ limit t w
+  mask-stops {b} T over = largest-unique stopped limit-is
+    where
+      stopped : Largest (λ c. power t w c ≤ carried t .mask) (carried t .cap) b
+      stopped = record {
+        at-most = T .at-most;
+        passes = T .under;
+        most = λ k l p. le-of-suc-le-suc (lt-of-not-le {n = suc b} {m = k} (λ h. not-le-of-lt over (le-trans (power-mono h) p)));
+      }
+
+  -- the cap does not
+  pub cap-stops : {b : ℕ} → Tried b → carried t .cap ≤ b → b ≡ limit t w
+  cap-stops {b} T full =
+      largest-unique (record { at-most = T .at-most; passes = T .under; most = λ k l p. omega arith }) limit-is

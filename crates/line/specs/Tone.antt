@@ -1,0 +1,78 @@
+-- One tone. Document 01, 'Cost, power and limit of a tone'.
+-- Assumes nothing.
+use mathlib.Core.Logic.{ite}
+use Prim.Native.Nat.{ℕ, zero, suc, _+_, _-_, _*_, _/_, _^_, _≤_}
+use native.Mathlib.Decide.{decLe}
+use Rattle.line.specs.declared.Numbers.{Numbers}
+use Rattle.line.specs.declared.Kind.{Kind}
+use Rattle.line.specs.declared.Kind.the-variants.{Pair, Single}
+use Rattle.line.specs.declared.Tone.{Tone}
+
+-- 'A described tone carries its kind, and the kind carries what belongs to it.'
+abbrev pub carriedBy : Kind → Numbers
+carriedBy (Pair n) = n
+carriedBy (Single n) = n
+
+abbrev pub carried : Tone → Numbers
+carried t = carriedBy (t .kind)
+
+-- 'The kinds are pair (two-dimensional, cap 0 to 15) and single (one-dimensional, cap 0 to 7).'
+abbrev pub mostCap : Kind → ℕ
+mostCap (Pair n) = 15
+mostCap (Single n) = 7
+
+-- The ranges of what a tone carries: noise and gain from 1 to 65,535, mask from 0 to 2^47.
+pub record InRange (t : Tone) : Type 0 where
+  pub noise-low : 1 ≤ carried t .noise
+  pub noise-high : carried t .noise ≤ 65535
+  pub gain-low : 1 ≤ carried t .gain
+  pub gain-high : carried t .gain ≤ 65535
+  pub cap-high : carried t .cap ≤ mostCap (t .kind)
+  pub mask-high : carried t .mask ≤ 2 ^ 47
+
+-- 'The gap g (256 to 65,535) is in 1/256: 256 means no gap.'
+pub record Gap (g : ℕ) : Type 0 where
+  pub low : 256 ≤ g
+  pub high : g ≤ 65535
+
+-- the smallest whole number not below a / b, for b above zero
+abbrev pub ceiling : (a b : ℕ) → ℕ
+ceiling a b = (a + (b - 1)) / b
+
+-- 'Cost w is the smallest whole number not below g × noise / (256 × gain).'
+unfoldable pub cost : (g : ℕ) → Tone → ℕ
+cost g t = ceiling (g * carried t .noise) (256 * carried t .gain)
+
+-- 'from 1 to 16,776,705'
+pub record Cost (w : ℕ) : Type 0 where
+  pub low : 1 ≤ w
+  pub high : w ≤ 16776705
+
+-- 'Power of b bits: pair w × (2^b − 1), single w × (4^b − 1). No bits, no power.'
+unfoldable pub powerOf : Kind → (w b : ℕ) → ℕ
+powerOf (Pair n) w b = w * (2 ^ b - 1)
+powerOf (Single n) w b = w * (4 ^ b - 1)
+
+abbrev pub power : Tone → (w b : ℕ) → ℕ
+power t w b = powerOf (t .kind) w b
+
+-- 'The step of a tone at b bits is the power of b + 1 bits less the power of b.'
+abbrev pub step : Tone → (w b : ℕ) → ℕ
+step t w b = power t w (suc b) - power t w b
+
+-- 'Doubling the step of a single tone; it goes up fourfold': one bit more doubles a step so many times.
+abbrev pub doublingsOf : Kind → ℕ
+doublingsOf (Pair n) = 1
+doublingsOf (Single n) = 2
+
+abbrev pub doublings : Tone → ℕ
+doublings t = doublingsOf (t .kind)
+
+-- the largest b that is at most n and passes the test, 0 where none does
+unfoldable pub largest : {P : ℕ → Type 0} → ((b : ℕ) → Dec (P b)) → (n : ℕ) → ℕ
+largest test zero = zero
+largest test (suc n) = ite (test (suc n)) (suc n) (largest test n)
+
+-- 'The limit of a tone is the largest b that is at most the cap and has power at most the mask.'
+unfoldable pub limit : Tone → (w : ℕ) → ℕ
+limit t w = largest (λ b. decLe (power t w b) (carried t .mask)) (carried t .cap)

@@ -1,0 +1,91 @@
+// One tone of a line, and the line: document 01, 'Cost, power and limit of a tone'.
+ghost use mathlib.Core.Path.{_≡_};
+ghost use Prim.Native.Nat.{ℕ, _+_, _≤_, _<_};
+ghost use Rattle.line.specs.Tone.{carried, doublings, InRange, Gap, Cost, cost, power, step, limit};
+
+// What a tone of either kind carries: noise, gain, cap and mask.
+pub struct Numbers {
+    pub noise: u16,
+    pub gain: u16,
+    pub cap: u8,
+    pub mask: u64,
+}
+
+// A pair tone is two-dimensional, a single tone one-dimensional.
+pub enum Kind {
+    Pair(Numbers),
+    Single(Numbers),
+}
+
+pub struct Tone {
+    pub kind: Kind,
+}
+
+// What the tone carries, whichever its kind.
+pub fn carried(tone: Tone) -> Numbers
+    ensures { λ r. ⌜ r ≡ carried tone ⌝ }
+{
+    let kind = tone.kind;
+    match kind {
+        Kind::Pair(n) => n,
+        Kind::Single(n) => n,
+    }
+}
+
+// How much one bit more multiplies a step by, as a power of 2: a pair tone's steps double, a single tone's go up fourfold.
+pub fn doublings(tone: Tone) -> u32
+    ensures { λ r. ⌜ r ≡ doublings tone ⌝ }
+{
+    let kind = tone.kind;
+    match kind {
+        Kind::Pair(_) => 1,
+        Kind::Single(_) => 2,
+    }
+}
+
+// The cost of a tone at a gap: the noise over the gain, with the gap, rounded up.
+pub fn cost(gap: u16, tone: Tone) -> u64
+    requires { ⌜ Gap gap × InRange tone ⌝ }
+    ensures meaning { λ r. ⌜ r ≡ cost gap tone ⌝ }
+    ensures range { λ r. ⌜ Cost r ⌝ }
+{
+    let n = carried(tone);
+    let top = gap as u64 * n.noise as u64;
+    let bottom = 256 * n.gain as u64;
+    (top + (bottom - 1)) / bottom
+}
+
+// The power of a number of bits, at most the cap.
+pub fn power(tone: Tone, cost: u64, bits: u8) -> u64
+    requires { ⌜ Cost cost × (bits ≤ carried tone .cap) × InRange tone ⌝ }
+    ensures { λ r. ⌜ r ≡ power tone cost bits ⌝ }
+{
+    let shift = doublings(tone) * bits as u32;
+    (cost << shift) - cost
+}
+
+// The step at a number of bits, below the cap.
+pub fn step(tone: Tone, cost: u64, bits: u8) -> u64
+    requires { ⌜ Cost cost × (bits < carried tone .cap) × InRange tone ⌝ }
+    ensures { λ r. ⌜ r ≡ step tone cost bits ⌝ }
+{
+    let shift = doublings(tone);
+    ((cost << shift) - cost) << (shift * bits as u32)
+}
+
+// The limit of a tone, by trying one bit more until the cap or the mask stops it.
+pub fn limit(tone: Tone, cost: u64) -> u8
+    requires { ⌜ Cost cost × InRange tone ⌝ }
+    ensures { λ r. ⌜ r ≡ limit tone cost ⌝ }
+{
+    let n = carried(tone);
+    let cap = n.cap;
+    let mut bits: u8 = 0;
+    while bits < cap {
+        if n.mask < power(tone, cost, bits + 1) {
+            return bits;
+        }
+        bits += 1;
+    }
+    bits
+}

@@ -1,0 +1,11 @@
+pub mod Sums
+pub mod Order
+pub mod Search
+pub mod Changes
+pub mod Rule
+pub mod Final
+pub mod Rank
+pub mod Run
+pub mod Left
+pub mod Demand3
+pub mod SetBits

@@ -1,0 +1,3 @@
+pub mod Tones
+pub mod Runs
+pub mod Claims
