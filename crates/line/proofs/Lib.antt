@@ -2,3 +2,5 @@ pub mod Ceiling
 pub mod Largest
 pub mod Growth
 pub mod Limits
+pub mod Loads
+pub mod Cases

@@ -1,1 +1,3 @@
 pub mod Tone
+pub mod Line
+pub mod Cases

@@ -1,6 +1,7 @@
 // One tone of a line, and the line: document 01, 'Cost, power and limit of a tone'.
 ghost use mathlib.Core.Path.{_≡_};
 ghost use Prim.Native.Nat.{ℕ, _+_, _≤_, _<_};
+ghost use Rattle.line.specs.Line.{EntryInRange, stepsOf};
 ghost use Rattle.line.specs.Tone.{carried, doublings, InRange, Gap, Cost, cost, power, step, limit};
 
 // What a tone of either kind carries: noise, gain, cap and mask.
@@ -19,6 +20,32 @@ pub enum Kind {
 
 pub struct Tone {
     pub kind: Kind,
+}
+
+// A tone of a line is described or not. The blank case stands first, so that it is the one an empty place has.
+pub enum Slot {
+    Undescribed,
+    Described(Tone),
+}
+
+pub struct Entry {
+    pub slot: Slot,
+}
+
+// A line: N, gap, budget, the described tones with what they carry, and the set of silenced tones, 32 to a map.
+pub struct Line {
+    pub size: u16,
+    pub gap: u16,
+    pub budget: u64,
+    pub entries: [Entry; 256],
+    pub maps: [u32; 8],
+}
+
+// What the runs need of a tone, whichever its kind: its limit, and its steps. The step at b bits is `first`, doubled `doublings` × b times.
+pub struct Steps {
+    pub limit: u8,
+    pub first: u64,
+    pub doublings: u32,
 }
 
 // What the tone carries, whichever its kind.
@@ -64,9 +91,9 @@ pub fn power(tone: Tone, cost: u64, bits: u8) -> u64
     (cost << shift) - cost
 }
 
-// The step at a number of bits, below the cap.
+// The step at a number of bits, at most the cap.
 pub fn step(tone: Tone, cost: u64, bits: u8) -> u64
-    requires { ⌜ Cost cost × (bits < carried tone .cap) × InRange tone ⌝ }
+    requires { ⌜ Cost cost × (bits ≤ carried tone .cap) × InRange tone ⌝ }
     ensures { λ r. ⌜ r ≡ step tone cost bits ⌝ }
 {
     let shift = doublings(tone);
@@ -88,4 +115,31 @@ pub fn limit(tone: Tone, cost: u64) -> u8
         bits += 1;
     }
     bits
+}
+
+// What the runs need of an entry: a tone that is not described, or silenced, has limit 0.
+pub fn steps_of(gap: u16, entry: Entry, silenced: bool) -> Steps
+    requires { ⌜ Gap gap × EntryInRange entry ⌝ }
+    ensures { λ r. ⌜ r ≡ stepsOf gap entry silenced ⌝ }
+{
+    let none = Steps {
+        limit: 0,
+        first: 0,
+        doublings: 0,
+    };
+    if silenced {
+        return none;
+    }
+    let slot = entry.slot;
+    match slot {
+        Slot::Undescribed => none,
+        Slot::Described(tone) => {
+            let w = cost(gap, tone);
+            Steps {
+                limit: limit(tone, w),
+                first: step(tone, w, 0),
+                doublings: doublings(tone),
+            }
+        }
+    }
 }

@@ -148,4 +148,3 @@ module _ (T : Tones) (R : Rising T) where
         go : (j c : ℕ) → Free T t j c ⊎ ((j ≡ h) × (c ≡ b)) → place T f (givingUp t h ! f) ≤ place T j c
         go j c (inl y) = rw same-bits (E .first y)
         go j c (inr e) = rw (same-bits, e .0, e .1) (omega arith)
-

@@ -53,7 +53,7 @@ module _ (T : Tones) (R : Rising T) (budget : ℕ) (base : KeepsBudget T budget 
   -- The re-fit run ends by itself, after at most as many moves as the limits add up to, and counts the steps that answered 'moved'.
   pub refit-ends : {t : Table} → KeepsLimits T t → Ends (refitStep T budget) (Refitting T budget) (sumOfLimits T) t (refitRun T budget t)
   refit-ends {t} w =
-      run-ends (refitStep T budget) (Refitting T budget) refit-moves (sumOfLimits T) (sumOfLimits T) t (omega arith)
+      run-ends (refitStep T budget) (Refitting T budget) refit-moves _ (sumOfLimits T) t (omega arith)
       (record { within = w; left = at-most-limits T R budget w })
 
   pub refit-final : {t : Table} → KeepsLimits T t → Final T budget (refitRun T budget t .table)
@@ -95,7 +95,7 @@ module _ (T : Tones) (R : Rising T) (budget : ℕ) (base : KeepsBudget T budget 
   -- The adding run ends by itself, after at most as many moves as the limits add up to.
   pub adding-ends : Ends (addStep T budget) (Adding T budget) (sumOfLimits T) (noBits T) (mostBits T budget)
   adding-ends =
-      run-ends (addStep T budget) (Adding T budget) (λ n t u A e. let f = add-moves A e in (f .0, f .1)) (sumOfLimits T) (sumOfLimits T) (noBits T)
+      run-ends (addStep T budget) (Adding T budget) (λ n t u A e. let f = add-moves A e in (f .0, f .1)) _ (sumOfLimits T) (noBits T)
       (omega arith) adding-starts
 
   -- Adding ends final.

@@ -1,5 +1,6 @@
 pub mod Sums
 pub mod Order
+pub mod Rising
 pub mod Search
 pub mod Changes
 pub mod Rule
@@ -9,3 +10,4 @@ pub mod Run
 pub mod Left
 pub mod Demand3
 pub mod SetBits
+pub mod Examples

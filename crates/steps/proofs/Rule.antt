@@ -8,11 +8,16 @@ use native.Mathlib.Decide.{decLt, decLe}
 use native.Mathlib.Omega.{arith}
 use lib.ListN.{getD-replicate}
 use Rattle.steps.specs.Tones.{Tones, step, Rising, Before, before?, Table, _!_, totalPower, noBits, KeepsLimits, KeepsBudget, Free}
-use Rattle.steps.specs.Runs.{earliestFree, latestHeld, taking, givingUp, Answer, moved, finished, takeIfFits, giveUpOrTake, refitMove, addStep, refitStep}
+use Rattle.steps.specs.Runs.{earliestFree, latestHeld, taking, givingUp, Answer, moved, finished, Fits, fits?, takeIfFits, giveUpOrTake, refitMove, addStep, refitStep}
 use Rattle.steps.specs.Claims.{Efficient, Final}
 use Rattle.steps.proofs.Sums.{sum-eq}
 use Rattle.steps.proofs.Order.{place, before-place, place-before, place-lt, size-place}
-use Rattle.steps.proofs.Search.{First, Last, Earliest, Latest, earliestFree-is, latestHeld-is}
+use Rattle.steps.proofs.Search.{First, Last, Earliest, Latest, not-after, earliestFree-is, latestHeld-is}
+
+-- what holds on both sides of a test holds of what the test picks
+by-test : {P : Type 0} (C : Answer → Type 0) (d : Dec P) {a b : Answer} → (P → C a) → (¬ P → C b) → C (ite d a b)
+by-test C (yes p) f g = f p
+by-test C (no m) f g = g m
 
 module _ (T : Tones) (budget : ℕ) where
   pub data Move (t : Table) : Table → Type 0 where
@@ -29,26 +34,17 @@ module _ (T : Tones) (R : Rising T) (budget : ℕ) where
     takeIfFits-is : Efficient T t → KeepsBudget T budget t → (o : Option ℕ) → First T t o → Did T budget t (takeIfFits T budget t o)
     unfolding takeIfFits
     takeIfFits-is s fits none h = record { within = w; efficient = s; tight = record { fits = fits; full = λ {j} {c} x. absurd (h j c x) } }
-    takeIfFits-is s fits (some f) E = go (decLe (totalPower T t + step T f (t ! f)) budget)
-      where
-        go : (d : Dec (totalPower T t + step T f (t ! f) ≤ budget)) → Did T budget t (ite d (moved (taking t f)) finished)
-        go (yes q) = take-one E s q
-        go (no m) = record {
+    takeIfFits-is s fits (some f) E =
+        by-test (Did T budget t) (fits? T budget t f) (λ q. take-one E s (omega arith)) (λ m. record {
           within = w;
           efficient = s;
-          tight = record {
-            fits = fits;
-            full = λ {j} {c} x. omega (arith, size-place T f (t ! f) j c (x .tone) (E .first x));
-          };
-        }
+          tight = record { fits = fits; full = λ {j} {c} x. omega (arith, size-place T f (t ! f) j c (x .tone) (E .first x)) };
+        })
 
     giveUpOrTake-is : {h b : ℕ} → Latest T t h b → Efficient T t → (o : Option ℕ) → First T t o → Did T budget t (giveUpOrTake T budget t h o)
     unfolding giveUpOrTake
-    giveUpOrTake-is {h} H s o f = go (decLt budget (totalPower T t))
-      where
-        go : (d : Dec (budget < totalPower T t)) → Did T budget t (ite d (moved (givingUp t h)) (takeIfFits T budget t o))
-        go (yes q) = give-up H s q
-        go (no m) = takeIfFits-is s (omega arith) o f
+    giveUpOrTake-is {h} H s o f =
+        by-test (Did T budget t) (decLt budget (totalPower T t)) (λ q. give-up H s (omega arith)) (λ m. takeIfFits-is s (omega arith) o f)
 
     refitMove-is : KeepsBudget T budget (noBits T) → (h f : Option ℕ) → Last T t h → First T t f → Did T budget t (refitMove T budget t h f)
     unfolding refitMove
@@ -66,20 +62,15 @@ module _ (T : Tones) (R : Rising T) (budget : ℕ) where
         blank = sum-eq (T .count) (λ i. T .power i (t ! i)) (λ i. T .power i (noBits T ! i)) (λ i il. ap (T .power i) (zeros i il))
     refitMove-is base (some h) none H F =
         giveUpOrTake-is H (record { sorted = λ {i} {b} {j} {c} x y. absurd (F j c y) }) none F
-    refitMove-is base (some h) (some f) H F = go (before? T f (t ! f) h (t ! h - 1))
+    refitMove-is base (some h) (some f) H F =
+        by-test (Did T budget t) (before? T f (t ! f) h (t ! h - 1)) (λ q. exchange F H (before-place T (F .free .tone) q))
+        (λ m. giveUpOrTake-is H (record { sorted = λ {i} {b} {j} {c} x y. place-before T i b j c (y .tone) (omega (arith, H .last x, F .first y, between m)) }) (some f) F)
       where
-        go : (d : Dec (Before T f (t ! f) h (t ! h - 1))) → Did T budget t (ite d (moved (taking (givingUp t h) f)) (giveUpOrTake T budget t h (some f)))
-        go (yes q) = exchange F H (before-place T (F .free .tone) q)
-        go (no m) = giveUpOrTake-is H (record { sorted = λ {i} {b} {j} {c} x y. place-before T i b j c (y .tone) (omega (arith, H .last x, F .first y, between)) }) (some f) F
-          where
-            later : Dec (place T f (t ! f) < place T h (t ! h - 1)) → place T h (t ! h - 1) ≤ place T f (t ! f)
-            later (yes q) = absurd (m (place-before T f (t ! f) h (t ! h - 1) (H .tone) q))
-            later (no k) = omega arith
-
-            between : place T h (t ! h - 1) < place T f (t ! f)
-            between =
-                place-lt T R h (t ! h - 1) f (t ! f) (H .tone) (F .free .tone) (F .free .below)
-                (λ e. omega (arith, ap (_!_ t) e, H .top)) (later (decLt (place T f (t ! f)) (place T h (t ! h - 1))))
+        -- h comes before f where f does not come before h
+        between : ¬ Before T f (t ! f) h (t ! h - 1) → place T h (t ! h - 1) < place T f (t ! f)
+        between m =
+            place-lt T R h (t ! h - 1) f (t ! f) (H .tone) (F .free .tone) (F .free .below)
+            (λ e. omega (arith, ap (_!_ t) e, H .top)) (not-after T (H .tone) (F .free .tone) m)
 
   pub refitStep-is : {t : Table} → KeepsLimits T t → KeepsBudget T budget (noBits T) → Did T budget t (refitStep T budget t)
   unfolding refitStep

@@ -1,6 +1,6 @@
 -- The searches find what they are named for: the earliest of all free steps, and the latest of all held ones.
 -- Assumes nothing.
-use mathlib.Core.Path.{_≡_}
+use mathlib.Core.Path.{_≡_, sym, ap}
 use mathlib.Core.Logic.{ite}
 use mathlib.Core.Option.{Option, none, some}
 use Prim.Native.Nat.{ℕ, zero, suc, _-_, _≤_, _<_}
@@ -9,7 +9,7 @@ use native.Mathlib.Omega.{arith}
 use Rattle.steps.specs.Tones.{Tones, step, Rising, Before, before?, Table, _!_, KeepsLimits, Held, Free}
 use Rattle.steps.specs.Runs.{against, choice, earliestFree, latestHeld}
 use Rattle.steps.proofs.Sums.{upto}
-use Rattle.steps.proofs.Order.{before-irreflexive, before-trans, place, before-place, place-before, place-rises}
+use Rattle.steps.proofs.Order.{before-irreflexive, before-trans, place, before-place, place-before, place-lt, place-rises}
 
 -- what `choice` finds among the first n tones
 abbrev Chosen : (has : ℕ → Type 0) (beats : ℕ → ℕ → Type 0) → ℕ → Option ℕ → Type 0
@@ -54,7 +54,7 @@ module _ (T : Tones) where
   Last t none = (j c : ℕ) → ¬ Held T t j c
   Last t (some i) = Latest t i (t ! i - 1)
 
-  not-after : {i b j c : ℕ} → i < T .count → j < T .count → ¬ Before T j c i b → place T i b ≤ place T j c
+  pub not-after : {i b j c : ℕ} → i < T .count → j < T .count → ¬ Before T j c i b → place T i b ≤ place T j c
   not-after {i} {b} {j} {c} il jl m = go (decLt (place T j c) (place T i b))
     where
       go : Dec (place T j c < place T i b) → place T i b ≤ place T j c
@@ -104,3 +104,30 @@ module _ (T : Tones) (R : Rising T) (t : Table) where
         top = omega arith;
         last = λ {j} {c} f. omega (arith, own j c f, not-after T (f .tone) (h .0) (h .2 j (f .tone) (omega arith)));
       }
+
+-- The same in document 01's words: the earliest free step comes before every other free step, on a tie that of the lowest tone;
+-- the latest held one comes after every other held step.
+module _ (T : Tones) (R : Rising T) (t : Table) where
+  pub earliest-before : (i : ℕ) → earliestFree T t ≡ some i → (j c : ℕ) → Free T t j c → ¬ ((i ≡ j) × (t ! i ≡ c)) → Before T i (t ! i) j c
+  earliest-before i found j c x other =
+      place-before T i (t ! i) j c (x .tone)
+      (place-lt T R i (t ! i) j c (E .free .tone) (x .tone) (x .below) (λ e. lt e (ℕ-discrete (t ! i) c)) (E .first x))
+    where
+      E : Earliest T t i
+      E = rw found at (earliestFree-is T R t)
+
+      lt : i ≡ j → Dec (t ! i ≡ c) → t ! i < c
+      lt e (yes q) = absurd (other (e, q))
+      lt e (no m) = omega (arith, ap (_!_ t) e, x .above)
+
+  pub latest-after : KeepsLimits T t → (i : ℕ) → latestHeld T t ≡ some i → (j c : ℕ) → Held T t j c → ¬ ((i ≡ j) × (t ! i - 1 ≡ c)) → Before T j c i (t ! i - 1)
+  latest-after w i found j c x other =
+      place-before T j c i (t ! i - 1) (H .tone)
+      (place-lt T R j c i (t ! i - 1) (x .tone) (H .tone) (omega (arith, H .top, w .under i (H .tone))) (λ e. lt e (ℕ-discrete (t ! i - 1) c)) (H .last x))
+    where
+      H : Latest T t i (t ! i - 1)
+      H = rw found at (latestHeld-is T R t w)
+
+      lt : j ≡ i → Dec (t ! i - 1 ≡ c) → c < t ! i - 1
+      lt e (yes q) = absurd (other (sym e, q))
+      lt e (no m) = omega (arith, ap (_!_ t) e, x .held)

@@ -1,6 +1,6 @@
 -- A set number of bits at the least power; and refusal 11 exactly where no table within limits and budget carries the target.
 -- Assumes nothing.
-use mathlib.Core.Path.{_≡_, sym, _∙_}
+use mathlib.Core.Path.{_≡_, refl, sym, _∙_}
 use mathlib.Core.Logic.{ite}
 use mathlib.Core.Option.{Option, none, some}
 use Prim.Native.Nat.{ℕ, _-_, _≤_, _<_}
@@ -9,7 +9,7 @@ use native.Mathlib.Omega.{arith}
 use Rattle.steps.specs.Tones.{Tones, Rising, Table, _!_, noBits, totalBits, sumOfLimits, KeepsLimits, KeepsBudget}
 use Rattle.steps.specs.Runs.{Answer, moved, finished, addStep, addStepTo, run, carrying, setBits}
 use Rattle.steps.specs.Claims.{Best, Carries, Cheapest, SetBits}
-use Rattle.steps.proofs.Sums.{sum-zero}
+use Rattle.steps.proofs.Sums.{sum-le, sum-zero}
 use Rattle.steps.proofs.Final.{efficient-least, final-best}
 use Rattle.steps.proofs.Run.{Ends, run-ends}
 use Rattle.steps.proofs.Demand3.{Adding, add-moves, add-finished, no-bits-at, adding-starts}
@@ -39,7 +39,7 @@ module _ (T : Tones) (budget target : ℕ) where
 module _ (T : Tones) (R : Rising T) (budget : ℕ) (base : KeepsBudget T budget (noBits T)) (target : ℕ) where
   to-ends : Ends (addStepTo T budget target) (Aiming T budget target) (sumOfLimits T) (noBits T) (run (addStepTo T budget target) (sumOfLimits T) (noBits T))
   to-ends =
-      run-ends (addStepTo T budget target) (Aiming T budget target) aims (sumOfLimits T) (sumOfLimits T) (noBits T) (omega arith)
+      run-ends (addStepTo T budget target) (Aiming T budget target) aims _ (sumOfLimits T) (noBits T) (omega arith)
       (record { adding = adding-starts T R budget base; short = omega (arith, sum-zero (T .count) (λ i. noBits T ! i) (no-bits-at T R budget base)) })
     where
       aims : (n : ℕ) (t u : Table) → Aiming T budget target n t → addStepTo T budget target t ≡ moved u → (0 < n) × Aiming T budget target (n - 1) u
@@ -70,3 +70,12 @@ module _ (T : Tones) (R : Rising T) (budget : ℕ) (base : KeepsBudget T budget 
         least = λ u v b. efficient-least T R (A .within) (A .efficient) u v (b ∙ sym e);
       }
       go (no m) = none-carries m
+
+-- a target above the sum of the limits is carried at no budget
+pub too-many : (T : Tones) → Rising T → (budget : ℕ) → KeepsBudget T budget (noBits T) → (target : ℕ) → sumOfLimits T < target → setBits T budget target ≡ none
+too-many T R budget base target h = go (setBits T budget target) (set-bits T R budget base target)
+  where
+    go : (o : Option Table) → SetBits T budget target o → o ≡ none
+    go none s = refl
+    go (some t) s =
+        absurd (omega (arith, s .carries .exact, sum-le (T .count) (λ i. t ! i) (T .limit) (s .carries .within .under)))

@@ -3,7 +3,7 @@
 use mathlib.Core.Path.{_≡_}
 use mathlib.Core.Logic.{ite}
 use mathlib.Core.Option.{Option, none, some}
-use Prim.Native.Nat.{ℕ, zero, suc, _+_, _-_, _<_}
+use Prim.Native.Nat.{ℕ, zero, suc, _+_, _-_, _≤_}
 use native.Mathlib.Decide.{decLe, decLt, ℕ-discrete}
 use lib.ListN.{set}
 use Rattle.steps.specs.Tones.{Tones, step, Before, before?, Table, _!_, noBits, totalBits, totalPower, sumOfLimits}
@@ -42,10 +42,18 @@ pub data Answer : Type 0 where
   finished : Answer
 
 module _ (T : Tones) (budget : ℕ) (t : Table) where
+  -- the step of tone f fits: with it 'the total stays within the budget'
+  abbrev pub Fits : ℕ → Type 0
+  Fits f = totalPower T t + step T f (t ! f) ≤ budget
+
+  unfoldable pub fits? : (f : ℕ) → Dec (Fits f)
+  fits? f = decLe (totalPower T t + step T f (t ! f)) budget
+
   -- 'if f exists and fits: take f. Otherwise: finished, nothing moved'
   unfoldable pub takeIfFits : Option ℕ → Answer
+  unfolding fits?
   takeIfFits none = finished
-  takeIfFits (some f) = ite (decLe (totalPower T t + step T f (t ! f)) budget) (moved (taking t f)) finished
+  takeIfFits (some f) = ite (fits? f) (moved (taking t f)) finished
 
   -- 'if the total is above the budget: give up h. Otherwise' as above
   unfoldable pub giveUpOrTake : ℕ → Option ℕ → Answer

@@ -1,0 +1,122 @@
+-- Every starred case holds: one test, computed over the list of rows, that gives a proof of each row that passes.
+-- Assumes nothing.
+use mathlib.Core.Path.{_≡_, refl}
+use mathlib.Core.Bool.{Bool, true, false}
+use mathlib.Core.List.{List, [], _∷_}
+use mathlib.Core.Option.{Option, none, some}
+use Prim.Native.Nat.{ℕ, zero, suc, _≤_, _<_}
+use native.Mathlib.Decide.{decLt, decLe, ℕ-discrete}
+use native.Mathlib.Omega.{arith}
+use borrow.Author.Needs.{needs}
+use lib.Dec.{T}
+use lib.ListN.{length, getD}
+use Rattle.steps.specs.Tones.{step, before?, Table, powers, sum, list, totalBits, totalPower, sumOfLimits, KeepsLimits}
+use Rattle.steps.specs.Runs.{against, choice, earliestFree, latestHeld, Answer, moved, finished, fits?, takeIfFits, giveUpOrTake, refitMove, addStep, addStepTo, refitStep, follow, run, mostBits, refitRun, carrying, setBits}
+use Rattle.steps.specs.Claims.{SetBits, Carries, Cheapest}
+use Rattle.steps.proofs.SetBits.{too-many}
+use Rattle.line.specs.declared.Numbers.{Numbers}
+use Rattle.line.specs.declared.Kind.{Kind}
+use Rattle.line.specs.declared.Kind.the-variants.{Pair, Single}
+use Rattle.line.specs.Tone.{carriedBy, mostCap, cost, powerOf, largest, limit, InRange}
+use Rattle.line.specs.Line.{blank, EntryInRange, LineInRange}
+use Rattle.line.specs.Cases.{Row, most, granted, refused, never, refits, costs, limits, tone, sample, sampleTones, Through, Holds, rows}
+use Rattle.line.proofs.Loads.{line-rising, no-bits-fit}
+
+-- ---- tests that give a proof where they pass
+
+unfoldable test : {A : Type 0} → Dec A → Option A
+test (yes a) = some a
+test (no m) = none
+
+unfoldable both : {A B : Type 0} → Option A → Option B → Option (A × B)
+both (some a) (some b) = some (a, b)
+both (some a) none = none
+both none o = none
+
+unfoldable onward : {A B : Type 0} → (A → B) → Option A → Option B
+onward f (some a) = some (f a)
+onward f none = none
+
+unfoldable same : (t u : List ℕ) → Option (t ≡ u)
+same [] [] = some refl
+same (x ∷ xs) (y ∷ ys) = onward (λ p. join x y xs ys (p .0) (p .1)) (both (test (ℕ-discrete x y)) (same xs ys))
+  where
+    join : (x y : ℕ) (xs ys : List ℕ) → x ≡ y → xs ≡ ys → x ∷ xs ≡ y ∷ ys
+    join x y xs ys p q = cc
+same [] (y ∷ ys) = none
+same (x ∷ xs) [] = none
+
+unfoldable sameAnswer : (a b : Answer) → Option (a ≡ b)
+sameAnswer finished finished = some refl
+sameAnswer (moved t) (moved u) = onward (λ e. cc) (same t u)
+sameAnswer finished (moved u) = none
+sameAnswer (moved t) finished = none
+
+unfoldable sameLoading : (o p : Option Table) → Option (o ≡ p)
+sameLoading none none = some refl
+sameLoading (some t) (some u) = onward (λ e. cc) (same t u)
+sameLoading none (some u) = none
+sameLoading (some t) none = none
+
+unfoldable through : (rule : Table → Answer) (t : Table) (us : List Table) → Option (Through rule t us)
+through rule t [] = sameAnswer (rule t) finished
+through rule t (u ∷ us) = both (sameAnswer (rule t) (moved u)) (through rule u us)
+
+-- ---- the sample line
+
+sample-in-range : LineInRange (sample 0)
+sample-in-range = record {
+  size-low = omega arith;
+  size-high = omega arith;
+  gap = record { low = omega arith; high = omega arith };
+  budget-high = omega arith;
+  entries = entries;
+}
+  where
+    entries : (i : ℕ) → i < 3 → EntryInRange (getD (sample 0 .entries) i blank)
+    entries zero l = record { slot-in-range = search needs }
+    entries (suc zero) l = record { slot-in-range = search needs }
+    entries (suc (suc zero)) l = record { slot-in-range = search needs }
+    entries (suc (suc (suc i))) l = absurd (omega arith)
+
+never-carried : (target : ℕ) → sumOfLimits sampleTones < target → (budget : ℕ) → setBits sampleTones budget target ≡ none
+never-carried target h budget =
+    too-many sampleTones (line-rising (sample 0) sample-in-range) budget (no-bits-fit (sample 0) sample-in-range budget) target h
+
+-- ---- the rows
+
+unfoldable row : (r : Row) → Option (Holds r)
+unfolding test both onward same sameAnswer sameLoading through
+row (most budget bits power allBits allPower) =
+    both (both (same (mostBits sampleTones budget .table) bits) (same (powers sampleTones bits) power))
+    (both (test (ℕ-discrete (totalBits sampleTones bits) allBits)) (test (ℕ-discrete (totalPower sampleTones bits) allPower)))
+row (granted target budget bits) = sameLoading (setBits sampleTones budget target) (some bits)
+row (refused target budget) = sameLoading (setBits sampleTones budget target) none
+row (never target) = onward (never-carried target) (test (decLt (sumOfLimits sampleTones) target))
+row (refits budget start tables) =
+    both (through (refitStep sampleTones budget) start tables) (test (ℕ-discrete (refitRun sampleTones budget start .moves) (length tables)))
+row (costs gap noise gain w) = test (ℕ-discrete (cost gap (tone Pair noise gain 0 0)) w)
+row (limits w mask b) = test (ℕ-discrete (limit (tone Pair 1 1 15 mask) w) b)
+
+abbrev pub All : List Row → Type 0
+All [] = Unit {0}
+All (r ∷ rs) = Holds r × All rs
+
+unfoldable each : (rs : List Row) → Option (All rs)
+unfolding both row
+each [] = some tt
+each (r ∷ rs) = both (row r) (each rs)
+
+-- what a passed test gives
+unfoldable passed : {A : Type 0} → Option A → Bool
+passed (some a) = true
+passed none = false
+
+proof : {A : Type 0} (o : Option A) → T (passed o) → A
+unfolding passed
+proof (some a) p = a
+proof none p = absurd p
+
+pub starred-cases : All rows
+unfolding rows test both onward same sameAnswer sameLoading through row each passed cost powerOf largest limit step before? sum list against choice earliestFree latestHeld fits? takeIfFits giveUpOrTake refitMove addStep addStepTo refitStep follow run carrying setBits decLt decLe ℕ-discrete
+starred-cases = proof (each rows) tt

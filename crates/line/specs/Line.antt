@@ -1,0 +1,74 @@
+-- The line: which tones are described and which silenced, and the tones as the runs see them.
+-- Assumes nothing.
+use mathlib.Core.List.{List}
+use mathlib.Core.Bool.{Bool, true, false}
+use Prim.Native.Nat.{ℕ, _*_, _/_, _%_, _^_, _≤_, _<_}
+use lib.Dec.{eqb}
+use lib.ListN.{getD}
+use Rattle.steps.specs.Tones.{Tones}
+use Rattle.line.specs.declared.Tone.{Tone}
+use Rattle.line.specs.declared.Slot.{Slot}
+use Rattle.line.specs.declared.Slot.the-variants.{Undescribed, Described}
+use Rattle.line.specs.declared.Entry.{Entry}
+use Rattle.line.specs.declared.Steps.{Steps}
+use Rattle.line.specs.declared.Line.{Line}
+use Rattle.line.specs.Tone.{InRange, Gap, cost, power, step, limit, doublings}
+
+-- an entry with no tone described
+abbrev pub blank : Entry
+blank = record { slot = Undescribed }
+
+-- 'The limit of a tone is the largest b ..' at the cost that the gap gives it. 'A tone not described, or silenced, has limit 0.'
+abbrev pub limitOf : (g : ℕ) → Slot → (silenced : Bool) → ℕ
+limitOf g slot true = 0
+limitOf g Undescribed false = 0
+limitOf g (Described t) false = limit t (cost g t)
+
+-- the power of b bits: 'no bits, no power', and a tone not described carries none
+abbrev pub powerOf : (g : ℕ) → Slot → (b : ℕ) → ℕ
+powerOf g Undescribed b = 0
+powerOf g (Described t) b = power t (cost g t) b
+
+-- 'Bit k of a map (value 2^k) silences tone 32 × word + k.'
+abbrev pub silencedIn : (maps : List ℕ) → (i : ℕ) → Bool
+silencedIn maps i = eqb (getD maps (i / 32) 0 / 2 ^ (i % 32) % 2) 1
+
+-- The tones of a line, with the limits and powers that the runs go by.
+abbrev pub tones : Line → Tones
+tones l = record {
+  count = l .size;
+  limit = λ i. limitOf (l .gap) (getD (l .entries) i blank .slot) (silencedIn (l .maps) i);
+  power = λ i b. powerOf (l .gap) (getD (l .entries) i blank .slot) b;
+}
+
+-- the ranges of what an entry carries
+abbrev pub SlotInRange : Slot → Type 0
+SlotInRange Undescribed = Unit {0}
+SlotInRange (Described t) = InRange t
+
+pub record EntryInRange (e : Entry) : Type 0 where
+  pub slot-in-range : SlotInRange (e .slot)
+
+-- the ranges of a line: N from 1 to 256, the gap from 256 to 65,535, the budget from 0 to 2^47, and those of each tone
+pub record LineInRange (l : Line) : Type 0 where
+  pub size-low : 1 ≤ l .size
+  pub size-high : l .size ≤ 256
+  pub gap : Gap (l .gap)
+  pub budget-high : l .budget ≤ 2 ^ 47
+  pub entries : (i : ℕ) → i < l .size → EntryInRange (getD (l .entries) i blank)
+
+-- the code's account of a tone
+abbrev pub noSteps : Steps
+noSteps = record { limit = 0; first = 0; doublings = 0 }
+
+abbrev pub stepsOfSlot : (g : ℕ) → Slot → (silenced : Bool) → Steps
+stepsOfSlot g slot true = noSteps
+stepsOfSlot g Undescribed false = noSteps
+stepsOfSlot g (Described t) false = record { limit = limit t (cost g t); first = step t (cost g t) 0; doublings = doublings t }
+
+abbrev pub stepsOf : (g : ℕ) → Entry → (silenced : Bool) → Steps
+stepsOf g e silenced = stepsOfSlot g (e .slot) silenced
+
+-- the step at b bits by that account: the first, doubled `doublings` × b times
+abbrev pub stepAt : Steps → (b : ℕ) → ℕ
+stepAt s b = s .first * 2 ^ (s .doublings * b)
