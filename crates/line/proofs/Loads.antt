@@ -5,6 +5,7 @@ use mathlib.Core.Bool.{Bool, true, false}
 use Prim.Native.Nat.{ℕ, suc, _+_, _-_, _*_, _^_, _≤_, _<_}
 use native.Mathlib.Omega.{arith}
 use lib.ListN.{getD, getD-replicate}
+use Rattle.silence.specs.Map.{silenced}
 use Rattle.steps.specs.Tones.{Tones, Rising, Table, _!_, noBits, totalPower, KeepsLimits, KeepsBudget}
 use Rattle.steps.specs.Runs.{setBits}
 use Rattle.steps.specs.Claims.{Demand3, SetBits}
@@ -17,7 +18,7 @@ use Rattle.line.specs.declared.Slot.{Slot}
 use Rattle.line.specs.declared.Slot.the-variants.{Undescribed, Described}
 use Rattle.line.specs.declared.Line.{Line}
 use Rattle.line.specs.Tone.{Gap, InRange, cost, power, step, doublings}
-use Rattle.line.specs.Line.{blank, limitOf, powerOf, silencedIn, tones, SlotInRange, LineInRange, stepsOfSlot, stepsOf, stepAt}
+use Rattle.line.specs.Line.{blank, limitOf, powerOf, tones, SlotInRange, LineInRange, stepsOfSlot, stepsOf, stepAt}
 use Rattle.line.proofs.Ceiling.{cost-range}
 use Rattle.line.proofs.Growth.{step-is, power-grows, power-zero, step-rises}
 
@@ -54,9 +55,9 @@ module _ (l : Line) (I : LineInRange l) where
   pub line-rising : Rising (tones l)
   unfolding slot
   line-rising =
-      rising (tones l) (λ i b. stepAt (stepsOfSlot (l .gap) (slot i) (silencedIn (l .maps) i)) b)
-      (λ i b il bl. slot-add-up (l .gap) (slot i) (silencedIn (l .maps) i) b bl)
-      (λ i b il bl. slot-rise (l .gap) (slot i) (silencedIn (l .maps) i) b (I .gap) (I .entries i il .slot-in-range) bl)
+      rising (tones l) (λ i b. stepAt (stepsOfSlot (l .gap) (slot i) (silenced (l .maps) i)) b)
+      (λ i b il bl. slot-add-up (l .gap) (slot i) (silenced (l .maps) i) b bl)
+      (λ i b il bl. slot-rise (l .gap) (slot i) (silenced (l .maps) i) b (I .gap) (I .entries i il .slot-in-range) bl)
 
   -- 'No bits, no power': the table of no bits keeps every budget
   pub no-bits-fit : (budget : ℕ) → KeepsBudget (tones l) budget (noBits (tones l))

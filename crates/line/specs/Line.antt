@@ -1,10 +1,9 @@
 -- The line: which tones are described and which silenced, and the tones as the runs see them.
 -- Assumes nothing.
-use mathlib.Core.List.{List}
 use mathlib.Core.Bool.{Bool, true, false}
-use Prim.Native.Nat.{ℕ, _*_, _/_, _%_, _^_, _≤_, _<_}
-use lib.Dec.{eqb}
+use Prim.Native.Nat.{ℕ, _*_, _^_, _≤_, _<_}
 use lib.ListN.{getD}
+use Rattle.silence.specs.Map.{silenced}
 use Rattle.steps.specs.Tones.{Tones}
 use Rattle.line.specs.declared.Tone.{Tone}
 use Rattle.line.specs.declared.Slot.{Slot}
@@ -29,15 +28,11 @@ abbrev pub powerOf : (g : ℕ) → Slot → (b : ℕ) → ℕ
 powerOf g Undescribed b = 0
 powerOf g (Described t) b = power t (cost g t) b
 
--- 'Bit k of a map (value 2^k) silences tone 32 × word + k.'
-abbrev pub silencedIn : (maps : List ℕ) → (i : ℕ) → Bool
-silencedIn maps i = eqb (getD maps (i / 32) 0 / 2 ^ (i % 32) % 2) 1
-
 -- The tones of a line, with the limits and powers that the runs go by.
 abbrev pub tones : Line → Tones
 tones l = record {
   count = l .size;
-  limit = λ i. limitOf (l .gap) (getD (l .entries) i blank .slot) (silencedIn (l .maps) i);
+  limit = λ i. limitOf (l .gap) (getD (l .entries) i blank .slot) (silenced (l .maps) i);
   power = λ i b. powerOf (l .gap) (getD (l .entries) i blank .slot) b;
 }
 

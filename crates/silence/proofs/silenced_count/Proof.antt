@@ -1,0 +1,65 @@
+-- `silence::silenced_count` meets its contract: between the turns the tones of the words so far are counted. Assumes nothing.
+use mathlib.Core.Path.{_≡_, refl, ap, _∙_}
+use native.Mathlib.Omega.{arith}
+use Prim.Native.Nat.{ℕ, _*_, _-_, _≤_}
+use borrow.Author.Needs.{needs}
+use Rattle.silence.specs.Map.{silenced, count}
+use Rattle.silence.proofs.Maps.{counted-le, count-word}
+use Rattle.silence.proofs.silenced_count.Statement.{statement}
+use Rattle.silence.proofs.silenced_count.Tie as tie
+
+abbrev Inv-loop : tie.InvT-loop
+Inv-loop maps n₀ word₀ n word = (word ≤ 8) × (n ≡ count (32 * word) (silenced maps))
+
+abbrev μ-loop : tie.MeasureT-loop
+μ-loop maps n₀ word₀ n word = 8 - word
+
+loop-holds : tie.Need-loop-holds Inv-loop μ-loop
+unfolding count
+loop-holds c = (omega arith, refl)
+
+mul-tones-in : tie.Need-mul-tones-in Inv-loop μ-loop
+mul-tones-in c = search needs
+
+element-copy-out-tones-in : tie.Need-element-copy-out-tones-in Inv-loop μ-loop
+element-copy-out-tones-in c = search needs
+
+tones-in-requires : tie.Need-tones-in-requires Inv-loop μ-loop
+tones-in-requires c κs = search needs
+
+add-n : tie.Need-add-n Inv-loop μ-loop
+add-n c =
+    record { fits = omega (arith, counted-le _ _ (c .before .before .before .loop .inv .1), counted-le _ _ (c .tones-in .ensures)) }
+
+add-word : tie.Need-add-word Inv-loop μ-loop
+add-word c = search needs
+
+loop-less : tie.Need-loop-less Inv-loop μ-loop
+loop-less c = search needs
+
+loop-again : tie.Need-loop-again Inv-loop μ-loop
+loop-again c =
+    let a = c .before .before .before in
+    (omega arith, omega (arith, a .loop .inv .1, c .tones-in .ensures, count-word (a .before .args .maps .now) (a .loop .word)))
+
+returns : tie.Need-returns Inv-loop μ-loop
+returns c =
+    let a = c .before in
+    let e : a .loop .word ≡ 8 = omega arith in
+    a .loop .inv .1 ∙ ap (λ (w : ℕ). count (32 * w) (silenced (a .before .args .maps .now))) e
+
+pub silenced-count-spec : {M : Type 1} → statement M
+silenced-count-spec =
+    tie.close
+    (tie.spec
+    Inv-loop
+    μ-loop
+    loop-holds
+    mul-tones-in
+    element-copy-out-tones-in
+    tones-in-requires
+    add-n
+    add-word
+    loop-less
+    loop-again
+    returns)

@@ -1,0 +1,49 @@
+// The silence maps of a line: eight words of 32 tones.
+ghost use mathlib.Core.Path.{_≡_};
+ghost use Prim.Native.Nat.{_<_};
+ghost use lib.Dec.{eqb};
+ghost use Rattle.silence.specs.Map.{bit, silenced, namesBeyond, count};
+
+// Whether the maps silence a tone.
+pub fn is_silenced(maps: &[u32; 8], tone: usize) -> bool
+    requires { ⌜ tone < 256 ⌝ }
+    ensures { λ r. ⌜ r ≡ silenced (now (maps .entry)) tone ⌝ }
+{
+    (maps[tone / 32] >> (tone % 32)) % 2 == 1
+}
+
+// Whether the map of a word names a tone that is `size` or more.
+pub fn names_beyond(size: u16, word: u8, map: u32) -> bool
+    ensures { λ r. ⌜ r ≡ namesBeyond size word map ⌝ }
+{
+    let first = word as u32 * 32;
+    let size = size as u32;
+    if size <= first {
+        return map != 0;
+    }
+    let inside = size - first;
+    if 32 <= inside {
+        return false;
+    }
+    map >> inside != 0
+}
+
+// How many tones a map names: its ones.
+fn tones_in(map: u32) -> u32
+    ensures { λ r. ⌜ r ≡ count 32 (λ k. eqb (bit map k) 1) ⌝ }
+{
+    u32::count_ones(map)
+}
+
+// How many tones the maps silence: the ones of each map.
+pub fn silenced_count(maps: &[u32; 8]) -> u32
+    ensures { λ r. ⌜ r ≡ count 256 (silenced (now (maps .entry))) ⌝ }
+{
+    let mut n: u32 = 0;
+    let mut word: usize = 0;
+    while word < 8 {
+        n += tones_in(maps[word]);
+        word += 1;
+    }
+    n
+}
