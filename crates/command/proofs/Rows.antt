@@ -1,0 +1,238 @@
+-- Laws of the rows: each command as a chain of tests at the places of its operands, and the row that a command byte finds.
+-- Assumes nothing.
+use mathlib.Core.Path.{_≡_, refl, sym, ap, _∙_}
+use mathlib.Core.Bool.{Bool, true, false}
+use mathlib.Core.Logic.{_⊎_, inl, inr, ⊎-elim}
+use mathlib.Core.List.{List, [], _∷_}
+use mathlib.Core.Option.{Option, none, some}
+use Prim.Native.Nat.{ℕ, zero, suc, _+_, _^_, _≤_, _<_}
+use native.Mathlib.Decide.{ℕ-discrete}
+use native.Mathlib.Nat.{add-zero, add-assoc}
+use native.Mathlib.Omega.{arith}
+use borrow.Author.Tests.{le-ltb, lt-ltb, lt-leb, eq-eqb, ne-eqb}
+use borrow.Author.Needs.{needs}
+use lib.Dec.{T, leb, ltb, eqb, ltb→lt}
+use lib.ListN.{length, getD}
+use Rattle.bigendian.specs.Number.{number}
+use Rattle.silence.specs.Map.{namesBeyond}
+use Rattle.command.specs.declared.Refusal.{Refusal}
+use Rattle.command.specs.declared.Refusal.the-variants.{SheetEnds, CommandNotAllowed, OperandOutOfRange, ToneBeyondLine, ToneRepeated}
+use Rattle.command.specs.declared.Command.{Command}
+use Rattle.command.specs.declared.Command.the-variants.{Describe, Silence, Refused}
+use Rattle.command.specs.Rows.{pick, within, Row, size, gap, budget, mostCap, kindOf, tone, pair, single, silence, end, toneRow, allowed, withCode, rowOf, width, bytesOf, judged, rowAt, decodedRow, decoded}
+
+-- ---- operands
+
+-- a number of one byte is that byte
+number-one : (s : List ℕ) (at : ℕ) → number s at 1 ≡ getD s at 0
+unfolding number
+number-one s at = simp add-zero (omega arith)
+
+-- a refusal that a test decides
+judged-pick : (t : Bool) (r : Refusal) (o : Option Refusal) (c : Command) → judged (pick t (some r) o) c ≡ pick t (Refused r) (judged o c)
+judged-pick true r o c = refl
+judged-pick false r o c = refl
+
+abbrev pub outOfRange : (place : ℕ) → Command
+outOfRange place = Refused (OperandOutOfRange place)
+
+-- an operand with a range, and what the command says where its value v is in the range
+unfoldable pub ranged : (v low high place : ℕ) → Command → Command
+ranged v low high place rest = pick (ltb v low) (outOfRange place) (pick (ltb high v) (outOfRange place) rest)
+
+-- What an operand's value decides; the code has it as v.
+module _ (low high place : ℕ) (rest : Command) {v w : ℕ} (e : v ≡ w) where
+  pub below : v < low → ranged w low high place rest ≡ outOfRange place
+  unfolding ranged
+  below l = rw (sym e, lt-ltb v low l)
+
+  pub above : low ≤ v → high < v → ranged w low high place rest ≡ outOfRange place
+  unfolding ranged
+  above l h = rw (sym e, le-ltb v low l, lt-ltb high v h)
+
+  pub in-range : low ≤ v → v ≤ high → ranged w low high place rest ≡ rest
+  unfolding ranged
+  in-range l h = rw (sym e, le-ltb v low l, le-ltb high v h)
+
+-- ---- the commands, with the places of their operands
+
+-- a command of one operand with a range
+pub one-at : (n : ℕ) (described : ℕ → Bool) (s : List ℕ) (at code w low high : ℕ) (says : List ℕ → Command)
+    → rowAt n described s at (record { code = code; operands = within w low high ∷ []; says = says })
+    ≡ ranged (number s (at + 1) w) low high (at + 1) (says (number s (at + 1) w ∷ []))
+unfolding rowAt ranged
+one-at n described s at code w low high says = simp judged-pick
+
+-- the silence command
+pub silence-at : (n : ℕ) (described : ℕ → Bool) (s : List ℕ) (at : ℕ)
+    → rowAt n described s at silence
+    ≡ ranged (getD s (at + 1) 0) 0 7 (at + 1)
+    (pick (namesBeyond n (getD s (at + 1) 0) (number s (at + 2) 4)) (Refused (ToneBeyondLine (at + 2)))
+    (Silence (getD s (at + 1) 0) (number s (at + 2) 4)))
+unfolding rowAt ranged
+silence-at n described s at = simp (judged-pick, number-one, add-assoc)
+
+-- a tone command of either kind, from its mask on, from its cap on, from its gain on, from its noise on, and all of it
+module _ (s : List ℕ) (at : ℕ) (isSingle : Bool) where
+  abbrev pub fromMask : Command
+  fromMask =
+      ranged (number s (at + 7) 8) 0 (2 ^ 47) (at + 7)
+      (Describe (getD s (at + 1) 0)
+      (record { kind = kindOf isSingle (record { noise = number s (at + 2) 2; gain = number s (at + 4) 2; cap = getD s (at + 6) 0; mask = number s (at + 7) 8 }) }))
+
+  abbrev pub fromCap : Command
+  fromCap = ranged (getD s (at + 6) 0) 0 (mostCap isSingle) (at + 6) fromMask
+
+  abbrev pub fromGain : Command
+  fromGain = ranged (number s (at + 4) 2) 1 65535 (at + 4) fromCap
+
+  abbrev pub fromNoise : Command
+  fromNoise = ranged (number s (at + 2) 2) 1 65535 (at + 2) fromGain
+
+pub tone-at : (n : ℕ) (described : ℕ → Bool) (s : List ℕ) (at : ℕ) (isSingle : Bool)
+    → rowAt n described s at (toneRow isSingle)
+    ≡ pick (leb n (getD s (at + 1) 0)) (Refused (ToneBeyondLine (at + 1)))
+    (pick (described (getD s (at + 1) 0)) (Refused (ToneRepeated (at + 1))) (fromNoise s at isSingle))
+unfolding rowAt ranged
+tone-at n described s at isSingle = either isSingle ∙ simp (judged-pick, number-one, add-assoc)
+  where
+    either : (isSingle : Bool) → rowAt n described s at (toneRow isSingle) ≡ rowAt n described s at (tone 0x04 isSingle)
+    either false = refl
+    either true = refl
+
+-- ---- the row that a command byte finds
+
+-- what holds of each row of a list
+abbrev Each : (Row → Type 0) → List Row → Type 0
+Each P [] = Unit {0}
+Each P (r ∷ rs) = P r × Each P rs
+
+-- a row found by its byte, of which something holds
+abbrev Found : (Row → Type 0) → (code : ℕ) → Option Row → Type 0
+Found P code none = Unit {0}
+Found P code (some r) = (code ≡ r .code) × P r
+
+found : (P : Row → Type 0) (code : ℕ) (rs : List Row) → Each P rs → Found P code (withCode rs code)
+found P code [] each = tt
+found P code (r ∷ rs) each = by (found P code rs (each .1)) (ℕ-discrete code (r .code))
+  where
+    by : Found P code (withCode rs code) → Dec (code ≡ r .code) → Found P code (withCode (r ∷ rs) code)
+    by later (yes e) = rw (eq-eqb code (r .code) e) (e, each .0)
+    by later (no ne) = rw (ne-eqb code (r .code) ne) later
+
+-- what holds of each of the seven rows holds of the one found
+found-allowed : (P : Row → Type 0) → Each P (size ∷ gap ∷ budget ∷ pair ∷ single ∷ silence ∷ end ∷ []) → (stage code : ℕ)
+    → Found P code (withCode (allowed stage) code)
+found-allowed P each stage code = found P code (allowed stage) (part stage)
+  where
+    part : (stage : ℕ) → Each P (allowed stage)
+    part zero = (each .0, tt)
+    part (suc zero) = (each .1 .0, tt)
+    part (suc (suc zero)) = (each .1 .1 .0, tt)
+    part (suc (suc (suc n))) = each .1 .1 .1
+
+-- after the first three commands the other four are allowed
+pub allowed-late : (stage : ℕ) → 3 ≤ stage → allowed stage ≡ pair ∷ single ∷ silence ∷ end ∷ []
+allowed-late zero l = absurd (omega arith)
+allowed-late (suc zero) l = absurd (omega arith)
+allowed-late (suc (suc zero)) l = absurd (omega arith)
+allowed-late (suc (suc (suc n))) l = refl
+
+-- and no other command
+pub none-late : (stage code : ℕ) → 3 ≤ stage → (code ≡ 4 → ⊥) → (code ≡ 5 → ⊥) → (code ≡ 6 → ⊥) → (code ≡ 7 → ⊥)
+    → bytesOf (withCode (allowed stage) code) ≡ 0
+none-late stage code l p q r s =
+    rw (allowed-late stage l, ne-eqb code 4 p, ne-eqb code 5 q, ne-eqb code 6 r, ne-eqb code 7 s)
+
+-- a command without bytes is none; one with bytes has the row of its byte
+none-found : (o : Option Row) → bytesOf o ≡ 0 → o ≡ none
+none-found none e = refl
+none-found (some r) e = absurd (omega arith)
+
+pub record IsAllowed (stage code : ℕ) : Type 0 where
+  pub row : withCode (allowed stage) code ≡ some (rowOf code)
+  pub low : 1 ≤ code
+
+pub row-found : (stage code : ℕ) → (bytesOf (withCode (allowed stage) code) ≡ 0 → ⊥) → IsAllowed stage code
+row-found stage code h = record { row = both .0; low = both .1 }
+  where
+    Own : Row → Type 0
+    Own r = (rowOf (r .code) ≡ r) × (1 ≤ r .code)
+
+    by : (o : Option Row) → Found Own code o → (bytesOf o ≡ 0 → ⊥) → (o ≡ some (rowOf code)) × (1 ≤ code)
+    by none f h = absurd (h refl)
+    by (some r) f h = (ap some (sym (f .1 .0) ∙ ap rowOf (sym (f .0))), omega arith)
+
+    both : (withCode (allowed stage) code ≡ some (rowOf code)) × (1 ≤ code)
+    both = by (withCode (allowed stage) code) (found-allowed Own (search needs) stage code) h
+
+-- the operands of the first two commands have two bytes
+pub header-width : (code : ℕ) → 1 ≤ code → code ≤ 2 → width (rowOf code .operands) ≡ 2
+header-width zero l h = absurd (omega arith)
+header-width (suc zero) l h = refl
+header-width (suc (suc zero)) l h = refl
+header-width (suc (suc (suc n))) l h = absurd (omega arith)
+
+pub tone-width : (isSingle : Bool) → width (toneRow isSingle .operands) ≡ 14
+tone-width false = refl
+tone-width true = refl
+
+-- the tone rows are those of the bytes 4 and 5
+pub four-or-five : (code : ℕ) → 4 ≤ code → code < 6 → (code ≡ 4) ⊎ (code ≡ 5)
+four-or-five code low high = by (ℕ-discrete code 4)
+  where
+    by : Dec (code ≡ 4) → (code ≡ 4) ⊎ (code ≡ 5)
+    by (yes e) = inl e
+    by (no ne) = inr (omega arith)
+
+pub tone-row : (code : ℕ) → 4 ≤ code → code < 6 → toneRow (eqb code 5) ≡ rowOf code
+tone-row code low high = ⊎-elim (λ e. rw e) (λ e. rw e) (four-or-five code low high)
+
+-- a byte above those of the other commands is taken for the end
+pub end-row : (code : ℕ) → 7 ≤ code → rowOf code ≡ end
+end-row code l = rw (other 1 tt, other 2 tt, other 3 tt, other 4 tt, other 5 tt, other 6 tt)
+  where
+    other : (k : ℕ) → T (ltb k 7) → eqb code k ≡ false
+    other k h = ne-eqb code k (λ e. omega (arith, ltb→lt k 7 h))
+
+-- ---- decoding
+
+-- The command at a place where its byte stands.
+module _ (n : ℕ) (described : ℕ → Bool) (s : List ℕ) (at stage bytes : ℕ)
+    (inside : at < length s) (e : bytes ≡ bytesOf (withCode (allowed stage) (getD s at 0))) where
+  pub no-row : bytes ≡ 0 → decoded n described s at stage ≡ record { command = Refused (CommandNotAllowed at); next = at }
+  unfolding decoded
+  no-row z = simp (lt-leb (length s) at inside, none-found (withCode (allowed stage) (getD s at 0)) (sym e ∙ z))
+
+  module _ (r : Row) (f : withCode (allowed stage) (getD s at 0) ≡ some r) where
+    row-bytes : bytes ≡ 1 + width (r .operands)
+    row-bytes = e ∙ ap bytesOf f
+
+    pub row-cut : length s < at + bytes → decoded n described s at stage ≡ record { command = Refused (SheetEnds (length s)); next = at }
+    unfolding decoded
+    row-cut l = simp (lt-leb (length s) at inside, f, lt-ltb (length s) (at + 1 + width (r .operands)) (omega (arith, row-bytes)))
+
+    pub row-whole : at + bytes ≤ length s → decoded n described s at stage ≡ record { command = rowAt n described s at r; next = at + bytes }
+    unfolding decoded
+    row-whole l =
+        let next : at + 1 + width (r .operands) ≡ at + bytes = omega (arith, row-bytes) in
+        simp (lt-leb (length s) at inside, f, next, le-ltb (length s) (at + bytes) l)
+
+-- Decoding asks whether a tone is described only of the byte after the command.
+pub decoded-same : (n : ℕ) (d e : ℕ → Bool) (s : List ℕ) (at stage : ℕ) → d (getD s (at + 1) 0) ≡ e (getD s (at + 1) 0)
+    → decoded n d s at stage ≡ decoded n e s at stage
+unfolding decoded
+decoded-same n d e s at stage h = rw (same (withCode (allowed stage) (getD s at 0)) (found-allowed Same each stage (getD s at 0)))
+  where
+    Same : Row → Type 0
+    Same r = rowAt n d s at r ≡ rowAt n e s at r
+
+    tones : (isSingle : Bool) → Same (toneRow isSingle)
+    tones isSingle = rw (tone-at n d s at isSingle, tone-at n e s at isSingle, h)
+
+    each : Each Same (size ∷ gap ∷ budget ∷ pair ∷ single ∷ silence ∷ end ∷ [])
+    each = (refl, (refl, (refl, (tones false, (tones true, (refl, (refl, tt)))))))
+
+    same : (o : Option Row) → Found Same (getD s at 0) o → decodedRow n d s at o ≡ decodedRow n e s at o
+    same none f = refl
+    same (some r) f = rw (f .1)
