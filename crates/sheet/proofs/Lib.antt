@@ -1,0 +1,9 @@
+pub mod Sound
+pub mod Turns
+pub mod Answers
+pub mod Length
+pub mod Accepted
+pub mod Written
+pub mod RoundTrip
+pub mod Tidied
+pub mod Examples

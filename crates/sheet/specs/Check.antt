@@ -1,0 +1,20 @@
+-- The check of a sheet. Document 01: 'A check of a sheet answers N, the number of described tones and the number of silenced tones.'
+-- Assumes nothing.
+use mathlib.Core.List.{List, [], _∷_}
+use Prim.Native.Nat.{ℕ}
+use Rattle.silence.specs.Map.{silenced, count}
+use Rattle.line.specs.declared.Line.{Line}
+use Rattle.command.specs.Refusals.{Outcome, success, refusal}
+use Rattle.sheet.specs.declared.Checked.{Checked}
+use Rattle.sheet.specs.declared.Checked.the-variants as checked
+use Rattle.sheet.specs.Reading.{Reading, accepted, refused, describedIn}
+
+-- Silenced tones are counted as a set, described or not; none from N on is silenced.
+abbrev pub checking : Reading → Checked
+checking (accepted l) = checked.Counts (l .size) (count (l .size) (describedIn (l .entries))) (count 256 (silenced (l .maps)))
+checking (refused r) = checked.Refused r
+
+-- the paper's number, place and answers of each case
+abbrev pub checkNumbers : Checked → Outcome
+checkNumbers (checked.Counts n described silenced) = success (n ∷ described ∷ silenced ∷ [])
+checkNumbers (checked.Refused r) = refusal 3 r

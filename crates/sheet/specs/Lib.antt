@@ -1,0 +1,4 @@
+pub mod Reading
+pub mod Check
+pub mod Tidy
+pub mod Claims

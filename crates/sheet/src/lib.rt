@@ -1,0 +1,160 @@
+// Reading a line sheet: document 01, 'The line sheet' and 'Why a sheet is turned down'.
+ghost use mathlib.Core.Path.{_≡_};
+ghost use Prim.Native.Nat.{_+_, _≤_, _<_};
+ghost use lib.ListN.{getD};
+ghost use Rattle.silence.specs.Map.{count};
+ghost use Rattle.sheet.specs.Check.{checking};
+ghost use Rattle.sheet.specs.Reading.{isDescribed, describedIn, readingOf, reading};
+use command::Command;
+use command::Refusal;
+use line::Entry;
+use line::Line;
+use line::Slot;
+
+// A sheet is accepted, or refused.
+pub enum Answer {
+    Accepted,
+    Refused(Refusal),
+}
+
+// What a sheet means: where it is accepted, the line.
+pub struct Sheet {
+    pub answer: Answer,
+    pub line: Line,
+}
+
+// Whether an entry's tone is described.
+fn is_described(entry: Entry) -> bool
+    ensures { λ r. ⌜ r ≡ isDescribed (entry .slot) ⌝ }
+{
+    let slot = entry.slot;
+    match slot {
+        Slot::Undescribed => false,
+        Slot::Described(_) => true,
+    }
+}
+
+// The byte after a place, or 0 past the end.
+fn byte_after(s: &[u8], at: usize) -> usize
+    requires { ⌜ at ≤ 4096 ⌝ }
+    ensures meaning { λ r. ⌜ r ≡ getD (now (s .entry)) (at + 1) 0 ⌝ }
+    ensures range { λ r. ⌜ r < 256 ⌝ }
+{
+    if at + 1 < s.len() {
+        return s[at + 1] as usize;
+    }
+    0
+}
+
+// Reads a sheet: the line that it means, or the first refusal that it meets.
+pub fn read(s: &[u8]) -> Sheet
+    ensures { λ r. ⌜ readingOf r ≡ reading (now (s .entry)) ⌝ }
+{
+    let mut line = Line {
+        size: 0,
+        gap: 0,
+        budget: 0,
+        entries: [Entry {
+            slot: Slot::Undescribed,
+        }; 256],
+        maps: [0; 8],
+    };
+    if 4096 < s.len() {
+        return Sheet {
+            answer: Answer::Refused(Refusal::SheetTooLong),
+            line: line,
+        };
+    }
+    let mut at: usize = 0;
+    let mut stage: u8 = 0;
+    loop {
+        let after = byte_after(s, at);
+        let entry = line.entries[after];
+        let taken = is_described(entry);
+        let decoded = command::decode(s, at, stage, line.size, taken);
+        let command = decoded.command;
+        at = decoded.next;
+        match command {
+            Command::End => {
+                if at < s.len() {
+                    return Sheet {
+                        answer: Answer::Refused(Refusal::BytesAfterEnd(at as u32)),
+                        line: line,
+                    };
+                }
+                return Sheet {
+                    answer: Answer::Accepted,
+                    line: line,
+                };
+            }
+            Command::Refused(refusal) => {
+                return Sheet {
+                    answer: Answer::Refused(refusal),
+                    line: line,
+                };
+            }
+            Command::Size(size) => {
+                line.size = size;
+                stage = 1;
+            }
+            Command::Gap(gap) => {
+                line.gap = gap;
+                stage = 2;
+            }
+            Command::Budget(budget) => {
+                line.budget = budget;
+                stage = 3;
+            }
+            Command::Describe(tone, t) => {
+                line.entries[tone as usize] = Entry {
+                    slot: Slot::Described(t),
+                };
+            }
+            Command::Silence(word, map) => {
+                let joined = line.maps[word as usize] | map;
+                line.maps[word as usize] = joined;
+            }
+        }
+    }
+}
+
+// How many tones are described.
+pub fn described_count(size: u16, entries: [Entry; 256]) -> u16
+    requires { ⌜ size ≤ 256 ⌝ }
+    ensures { λ r. ⌜ r ≡ count size (describedIn entries) ⌝ }
+{
+    let mut n: u16 = 0;
+    let mut i: u16 = 0;
+    while i < size {
+        let entry = entries[i as usize];
+        if is_described(entry) {
+            n += 1;
+        }
+        i += 1;
+    }
+    n
+}
+
+// What a check of a sheet answers: N, the number of described tones and the number of silenced tones; or why it is refused.
+pub enum Checked {
+    Counts(u16, u16, u16),
+    Refused(Refusal),
+}
+
+// Checks a sheet.
+pub fn check(s: &[u8]) -> Checked
+    ensures answer { λ r. ⌜ r ≡ checking (reading (now (s .entry))) ⌝ }
+{
+    let sheet = read(s);
+    let answer = sheet.answer;
+    match answer {
+        Answer::Refused(refusal) => Checked::Refused(refusal),
+        Answer::Accepted => {
+            let line = sheet.line;
+            let entries = line.entries;
+            let maps = line.maps;
+            let described = described_count(line.size, entries);
+            Checked::Counts(line.size, described, silence::silenced_count(&maps) as u16)
+        }
+    }
+}
