@@ -1,0 +1,36 @@
+-- Tones as arrays of numbers, for either kind: limits, first steps, and by how many doublings a step grows from bit to bit.
+-- Assumes nothing.
+use mathlib.Core.List.{List}
+use mathlib.Core.Option.{Option, none, some}
+use mathlib.Core.Path.{_≡_}
+use Prim.Native.Nat.{ℕ, _*_, _^_, _≤_, _<_}
+use lib.ListN.{getD}
+use Rattle.steps.specs.Tones.{Tones, step, Table, _!_}
+use Rattle.search.specs.declared.Found.{Found}
+use Rattle.search.specs.declared.Found.the-variants.{Nothing, Tone}
+
+-- the step of tone i at b bits, by the arrays
+abbrev pub stepIn : (firsts doublings : List ℕ) → (i b : ℕ) → ℕ
+stepIn firsts doublings i b = getD firsts i 0 * 2 ^ (getD doublings i 0 * b)
+
+-- the ranges that keep every step below 2^64
+pub record InRange (count : ℕ) (limits firsts doublings : List ℕ) : Type 0 where
+  pub count-high : count ≤ 256
+  pub first-high : (i : ℕ) → i < count → getD firsts i 0 < 2 ^ 26
+  pub shift-high : (i : ℕ) → i < count → getD doublings i 0 * getD limits i 0 ≤ 15
+
+-- no tone has more bits than its limit
+pub record Under (count : ℕ) (limits bits : List ℕ) : Type 0 where
+  pub under : (i : ℕ) → i < count → getD bits i 0 ≤ getD limits i 0
+
+-- The arrays describe tones, and the bits a table of them: below the number of tones, and for steps below the limits, they agree.
+pub record Describes (count : ℕ) (limits firsts doublings bits : List ℕ) (T : Tones) (t : Table) : Type 0 where
+  pub same-count : T .count ≡ count
+  pub same-limit : (i : ℕ) → i < count → T .limit i ≡ getD limits i 0
+  pub same-step : (i b : ℕ) → i < count → b < T .limit i → step T i b ≡ stepIn firsts doublings i b
+  pub same-bits : (i : ℕ) → i < count → t ! i ≡ getD bits i 0
+
+-- what a search answers, as an option
+abbrev pub found : Found → Option ℕ
+found Nothing = none
+found (Tone i) = some i
