@@ -6,7 +6,7 @@ use Prim.Native.Nat.{ℕ, suc, _+_, _-_, _*_, _^_, _≤_, _<_}
 use native.Mathlib.Omega.{arith}
 use lib.ListN.{getD, getD-replicate}
 use Rattle.silence.specs.Map.{silenced}
-use Rattle.steps.specs.Tones.{Tones, Rising, Table, _!_, noBits, totalPower, KeepsLimits, KeepsBudget}
+use Rattle.steps.specs.Tones.{Tones, Rising, step as stepOf, Table, _!_, noBits, totalPower, KeepsLimits, KeepsBudget}
 use Rattle.steps.specs.Runs.{setBits}
 use Rattle.steps.specs.Claims.{Demand3, SetBits}
 use Rattle.steps.proofs.Sums.{sum-zero}
@@ -58,6 +58,13 @@ module _ (l : Line) (I : LineInRange l) where
       rising (tones l) (λ i b. stepAt (stepsOfSlot (l .gap) (slot i) (silenced (l .maps) i)) b)
       (λ i b il bl. slot-add-up (l .gap) (slot i) (silenced (l .maps) i) b bl)
       (λ i b il bl. slot-rise (l .gap) (slot i) (silenced (l .maps) i) b (I .gap) (I .entries i il .slot-in-range) bl)
+
+  -- the steps of a line are those of the code's account
+  pub line-step : (i b : ℕ) → i < l .size → b < tones l .limit i
+      → stepOf (tones l) i b ≡ stepAt (stepsOf (l .gap) (getD (l .entries) i blank) (silenced (l .maps) i)) b
+  unfolding stepOf
+  line-step i b il bl =
+      omega (arith, slot-add-up (l .gap) (getD (l .entries) i blank .slot) (silenced (l .maps) i) b bl)
 
   -- 'No bits, no power': the table of no bits keeps every budget
   pub no-bits-fit : (budget : ℕ) → KeepsBudget (tones l) budget (noBits (tones l))

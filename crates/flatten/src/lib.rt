@@ -1,0 +1,34 @@
+// The tones of a line as arrays of numbers, so that the runs have one path for both kinds.
+ghost use Rattle.line.specs.Line.{LineInRange};
+ghost use Rattle.flatten.specs.Arrays.{Holds};
+use line::Line;
+
+// Limits, first steps, and by how many doublings a step grows from bit to bit.
+pub struct Arrays {
+    pub limits: [u8; 256],
+    pub firsts: [u64; 256],
+    pub doublings: [u8; 256],
+}
+
+// The arrays of a line.
+pub fn flatten(line: Line) -> Arrays
+    requires { ⌜ LineInRange line ⌝ }
+    ensures { λ r. ⌜ Holds line r ⌝ }
+{
+    let mut arrays = Arrays {
+        limits: [0; 256],
+        firsts: [0; 256],
+        doublings: [0; 256],
+    };
+    let maps = line.maps;
+    let mut i: usize = 0;
+    while i < line.size as usize {
+        let entry = line.entries[i];
+        let steps = line::steps_of(line.gap, entry, silence::is_silenced(&maps, i));
+        arrays.limits[i] = steps.limit;
+        arrays.firsts[i] = steps.first;
+        arrays.doublings[i] = steps.doublings as u8;
+        i += 1;
+    }
+    arrays
+}
