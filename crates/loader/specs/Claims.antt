@@ -1,0 +1,46 @@
+-- What is proved of the loading calls: demand 3 on bytes, and what the technician checks every morning.
+-- Assumes nothing.
+use mathlib.Core.Bool.{Bool, true, false}
+use mathlib.Core.List.{List}
+use mathlib.Core.Path.{_≡_}
+use Prim.Native.Nat.{ℕ, _+_, _*_, _≤_, _<_}
+use lib.ListN.{getD}
+use Rattle.bigendian.specs.Number.{number}
+use Rattle.steps.specs.Tones.{Table, _!_, totalPower}
+use Rattle.steps.specs.Runs.{mostBits, refitRun}
+use Rattle.steps.specs.Claims.{Demand3}
+use Rattle.line.specs.declared.Line.{Line}
+use Rattle.line.specs.declared.Slot.{Slot}
+use Rattle.line.specs.declared.Slot.the-variants.{Undescribed, Described}
+use Rattle.line.specs.Tone.{carried}
+use Rattle.line.specs.Line.{blank, tones}
+use Rattle.loader.specs.Tables.{tableBytes}
+use Rattle.loader.specs.Calls.{Loading, loaded, loadMost, refit, loadNumbers, afterLoading}
+
+-- Demand 3 of the two calls, on one accepted sheet and one starting table that keeps its limits, into buffers with room enough:
+-- the same table and powers byte for byte, the same total bits and total power, and all that `Demand3` of crate steps says of the runs:
+-- within limits and budget, best, and the count is of the rule's own moves, at most the sum of the limits.
+pub record SameLoading (sheet start : List ℕ) (l : Line) (room room′ : ℕ) : Type 0 where
+  pub most-bits : loadMost sheet room ≡ loaded l (mostBits (tones l) (l .budget))
+  pub re-fit : refit sheet start room′ ≡ loaded l (refitRun (tones l) (l .budget) start)
+  pub same-bytes : (old : List ℕ) → afterLoading (refit sheet start room′) old ≡ afterLoading (loadMost sheet room) old
+  pub same-totals : loadNumbers (refit sheet start room′) ≡ loadNumbers (loadMost sheet room)
+  pub runs : Demand3 (tones l) (l .budget) start
+
+-- the mask of a tone, 0 where none is described
+abbrev pub maskOf : Slot → ℕ
+maskOf Undescribed = 0
+maskOf (Described t) = carried t .mask
+
+abbrev pub maskAt : Line → (i : ℕ) → ℕ
+maskAt l i = maskOf (getD (l .entries) i blank .slot)
+
+-- A table that keeps limits and budget, as its written bytes have it: tone i's bits stand at 9 × i and its power in the 8 bytes after.
+pub record Respects (l : Line) (t : Table) : Type 0 where
+  pub bits-at : (i : ℕ) → i < l .size → getD (tableBytes (tones l) t) (9 * i) 0 ≡ t ! i
+  pub power-at : (i : ℕ) → i < l .size → number (tableBytes (tones l) t) (9 * i + 1) 8 ≡ tones l .power i (t ! i)
+  -- every power is at most its tone's mask, and the powers add up to at most the budget
+  pub masks : (i : ℕ) → i < l .size → tones l .power i (t ! i) ≤ maskAt l i
+  pub budget : totalPower (tones l) t ≤ l .budget
+  -- a tone with limit 0, as one silenced or not described, carries nothing
+  pub silent : (i : ℕ) → i < l .size → tones l .limit i ≡ 0 → t ! i ≡ 0
