@@ -119,7 +119,7 @@ pub fn read(s: &[u8]) -> Sheet
 }
 
 // How many tones are described.
-pub fn described_count(size: u16, entries: [Entry; 256]) -> u16
+fn described_count(size: u16, entries: [Entry; 256]) -> u16
     requires { ⌜ size ≤ 256 ⌝ }
     ensures { λ r. ⌜ r ≡ count size (describedIn entries) ⌝ }
 {

@@ -13,7 +13,7 @@ use line::Numbers;
 use line::Slot;
 
 // A tone command, from a place on. The operands of both kinds have the same widths.
-pub fn put_tone(out: &mut [u8], at: usize, code: u8, tone: u8, n: Numbers)
+fn put_tone(out: &mut [u8], at: usize, code: u8, tone: u8, n: Numbers)
     requires { ⌜ at + 15 ≤ length (now out) ⌝ }
     ensures { λ r. ⌜ now (out .exit) ≡ sets (now (out .entry)) at (code ∷ operandBytes (pair .operands) (numbersOf tone n)) ⌝ }
 {
@@ -26,7 +26,7 @@ pub fn put_tone(out: &mut [u8], at: usize, code: u8, tone: u8, n: Numbers)
 }
 
 // The command of a slot, from a place on, if it is described. Answers the place after it.
-pub fn put_slot(out: &mut [u8], at: usize, tone: u8, slot: Slot) -> usize
+fn put_slot(out: &mut [u8], at: usize, tone: u8, slot: Slot) -> usize
     requires { ⌜ at + length (slotBytes tone slot) ≤ length (now out) ⌝ }
     ensures place { λ r. ⌜ r ≡ at + length (slotBytes tone slot) ⌝ }
     ensures bytes { λ r. ⌜ now (out .exit) ≡ sets (now (out .entry)) at (slotBytes tone slot) ⌝ }
@@ -45,7 +45,7 @@ pub fn put_slot(out: &mut [u8], at: usize, tone: u8, slot: Slot) -> usize
 }
 
 // The described tones in rising number, from a place on. Answers the place after them.
-pub fn put_tones(out: &mut [u8], at: usize, size: u16, entries: [Entry; 256]) -> usize
+fn put_tones(out: &mut [u8], at: usize, size: u16, entries: [Entry; 256]) -> usize
     requires { ⌜ (size ≤ 256) × (at + length (toneBytes size entries) ≤ length (now out)) ⌝ }
     ensures place { λ r. ⌜ r ≡ at + length (toneBytes size entries) ⌝ }
     ensures bytes { λ r. ⌜ now (out .exit) ≡ sets (now (out .entry)) at (toneBytes size entries) ⌝ }
@@ -62,7 +62,7 @@ pub fn put_tones(out: &mut [u8], at: usize, size: u16, entries: [Entry; 256]) ->
 }
 
 // The silence command of a word, from a place on, if its map is not zero. Answers the place after it.
-pub fn put_word(out: &mut [u8], at: usize, word: u8, map: u32) -> usize
+fn put_word(out: &mut [u8], at: usize, word: u8, map: u32) -> usize
     requires { ⌜ at + length (wordBytes word map) ≤ length (now out) ⌝ }
     ensures place { λ r. ⌜ r ≡ at + length (wordBytes word map) ⌝ }
     ensures bytes { λ r. ⌜ now (out .exit) ≡ sets (now (out .entry)) at (wordBytes word map) ⌝ }
@@ -77,7 +77,7 @@ pub fn put_word(out: &mut [u8], at: usize, word: u8, map: u32) -> usize
 }
 
 // The silence commands of the words in rising order, from a place on. Answers the place after them.
-pub fn put_words(out: &mut [u8], at: usize, maps: [u32; 8]) -> usize
+fn put_words(out: &mut [u8], at: usize, maps: [u32; 8]) -> usize
     requires { ⌜ at + length (mapBytes 8 maps) ≤ length (now out) ⌝ }
     ensures place { λ r. ⌜ r ≡ at + length (mapBytes 8 maps) ⌝ }
     ensures bytes { λ r. ⌜ now (out .exit) ≡ sets (now (out .entry)) at (mapBytes 8 maps) ⌝ }
