@@ -1,5 +1,5 @@
 #!/usr/bin/env python3
-"""A model of document 01's line sheet, written from the paper alone: reading with its refusals, check, tidy.
+"""A model of document 01's line sheet, written from the paper and the readings of docs/DECISIONS.md: reading with its refusals, check, tidy.
 
   model.py < stdin > stdout      what the test program prints for a text of sheets
   model.py --selftest            the paper's own statements

@@ -1,7 +1,7 @@
 -- Laws of the numbers of several bytes, over every width. Assumes nothing.
 use mathlib.Core.Path.{_≡_, refl, sym, ap, _∙_}
 use mathlib.Core.List.{List, [], _∷_, _++_}
-use mathlib.Core.Logic.{_⊎_, inl, inr}
+use mathlib.Core.Logic.{inl, inr}
 use Prim.Native.Nat.{ℕ, zero, suc, _+_, _-_, _*_, _/_, _%_, _^_, _≤_, _<_}
 use native.Mathlib.Nat.{pow-suc, le-trans, pow-le-pow-right, mul-le-mul-right, div-add-mod', le-of-suc-le-suc, eq-or-lt-of-le, not-suc-le-zero}
 use native.Mathlib.Numerals.{unary-clauses}
@@ -56,6 +56,7 @@ number-append p q r w at e h =
 
 -- Writing.
 
+-- as many bytes as asked for, each below 256
 pub length-bytes : (w n : ℕ) → length (bytes w n) ≡ w
 unfolding bytes
 length-bytes zero n = refl
@@ -90,6 +91,7 @@ bytes-next out at (suc i) n h =
 
 -- Reading what was written.
 
+-- the bytes of a number that fits spell it
 pub number-bytes : (w n : ℕ) → n < 256 ^ w → number (bytes w n) 0 w ≡ n
 unfolding number bytes
 number-bytes zero n h = omega arith
@@ -101,5 +103,6 @@ number-bytes (suc w) n h =
     let low : getD (b ++ n % 256 ∷ []) (0 + w) 0 ≡ n % 256 = getD-at b (n % 256) [] 0 (0 + w) (omega arith) in
     rw (high, low) (div-add-mod' n 256)
 
+-- and they do so wherever they stand
 pub number-here : (p r : List ℕ) (w n at : ℕ) → at ≡ length p → n < 256 ^ w → number (p ++ bytes w n ++ r) at w ≡ n
 number-here p r w n at e h = number-append p (bytes w n) r w at e (omega (arith, length-bytes w n)) ∙ number-bytes w n h

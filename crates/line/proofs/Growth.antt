@@ -1,4 +1,4 @@
--- Powers and steps that grow by a power of 2, for either kind: the one place where the kinds are told apart is `power-shift`.
+-- Powers and steps that grow by a power of 2, for either kind. The kinds are told apart in `power-shift` and in the bounds on doublings and shifts.
 -- Assumes nothing.
 use mathlib.Core.Path.{_≡_, refl, sym, ap, _∙_}
 use Prim.Native.Nat.{ℕ, zero, suc, _+_, _-_, _*_, _%_, _^_, _≤_, _<_}

@@ -18,3 +18,8 @@ checking (refused r) = checked.Refused r
 abbrev pub checkNumbers : Checked → Outcome
 checkNumbers (checked.Counts n described silenced) = success (n ∷ described ∷ silenced ∷ [])
 checkNumbers (checked.Refused r) = refusal 3 r
+
+-- what a check answers in those numbers: N, described and silenced, or the refusal
+abbrev pub checkOutcome : Reading → Outcome
+checkOutcome (accepted l) = success (l .size ∷ count (l .size) (describedIn (l .entries)) ∷ count 256 (silenced (l .maps)) ∷ [])
+checkOutcome (refused r) = refusal 3 r

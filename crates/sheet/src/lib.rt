@@ -3,7 +3,7 @@ ghost use mathlib.Core.Path.{_≡_};
 ghost use Prim.Native.Nat.{_+_, _≤_, _<_};
 ghost use lib.ListN.{getD};
 ghost use Rattle.silence.specs.Map.{count};
-ghost use Rattle.sheet.specs.Check.{checking};
+ghost use Rattle.sheet.specs.Check.{checking, checkNumbers, checkOutcome};
 ghost use Rattle.sheet.specs.Reading.{isDescribed, describedIn, readingOf, reading};
 use command::Command;
 use command::Refusal;
@@ -144,6 +144,7 @@ pub enum Checked {
 // Checks a sheet.
 pub fn check(s: &[u8]) -> Checked
     ensures answer { λ r. ⌜ r ≡ checking (reading (now (s .entry))) ⌝ }
+    ensures numbers { λ r. ⌜ checkNumbers r ≡ checkOutcome (reading (now (s .entry))) ⌝ }
 {
     let sheet = read(s);
     let answer = sheet.answer;

@@ -35,3 +35,8 @@ one-move = refl
 counted : refitRun two 7 (0 ∷ 2 ∷ []) ≡ record { table = 2 ∷ 1 ∷ []; moves = 2 }
 unfolding run follow refitStep refitMove fits? takeIfFits giveUpOrTake earliestFree latestHeld choice against before? step sum decLt decLe ℕ-discrete
 counted = refl
+
+-- a table above the budget gives up its latest held step, of equal ones the higher tone's
+over-budget : refitStep two 3 (1 ∷ 1 ∷ []) ≡ moved (1 ∷ 0 ∷ [])
+unfolding refitStep refitMove fits? takeIfFits giveUpOrTake earliestFree latestHeld choice against before? step sum decLt decLe ℕ-discrete
+over-budget = refl

@@ -26,3 +26,8 @@ afterTidying (refused r) old = old
 abbrev pub tidyNumbers : Tidied → Outcome
 tidyNumbers (Length n) = success (n ∷ [])
 tidyNumbers (Refused r) = refusal 1 r
+
+-- what tidying answers in those numbers: the tidy length, or the refusal
+abbrev pub tidyOutcome : Reading → (room : ℕ) → Outcome
+tidyOutcome (accepted l) room = pick (ltb room (length (tidy l))) (refusal 1 DestinationTooSmall) (success (length (tidy l) ∷ []))
+tidyOutcome (refused r) room = refusal 1 r

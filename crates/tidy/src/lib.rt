@@ -3,7 +3,7 @@ ghost use mathlib.Core.Path.{_≡_};
 ghost use Prim.Native.Nat.{ℕ, _+_, _≤_};
 ghost use lib.ListN.{length};
 ghost use Rattle.sheet.specs.Reading.{reading};
-ghost use Rattle.tidy.specs.Tidying.{tidying, afterTidying};
+ghost use Rattle.tidy.specs.Tidying.{tidying, tidyNumbers, tidyOutcome, afterTidying};
 ghost use Rattle.sheet.specs.Tidy.{slotBytes, toneBytes, mapBytes, tidy};
 use command::Refusal;
 use line::Entry;
@@ -72,6 +72,7 @@ pub enum Tidied {
 // Writes the tidy form of a sheet to the start of a lent buffer.
 pub fn tidy(s: &[u8], out: &mut [u8]) -> Tidied
     ensures answer { λ r. ⌜ r ≡ tidying (reading (now (s .entry))) (length (now (out .entry))) ⌝ }
+    ensures numbers { λ r. ⌜ tidyNumbers r ≡ tidyOutcome (reading (now (s .entry))) (length (now (out .entry))) ⌝ }
     ensures bytes { λ r. ⌜ now (out .exit) ≡ afterTidying (reading (now (s .entry))) (now (out .entry)) ⌝ }
 {
     let sheet = sheet::read(s);

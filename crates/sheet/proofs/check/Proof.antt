@@ -7,7 +7,7 @@ use Rattle.silence.specs.Map.{silenced}
 use Rattle.silence.proofs.Maps.{counted-le}
 use Rattle.sheet.specs.Reading.{accepted, reading}
 use Rattle.sheet.proofs.Accepted.{accepted-sound}
-use Rattle.sheet.proofs.Answers.{accepted-as, refused-as}
+use Rattle.sheet.proofs.Answers.{accepted-as, refused-as, check-numbers}
 use Rattle.sheet.proofs.check.Statement.{statement}
 use Rattle.sheet.proofs.check.Tie as tie
 
@@ -41,12 +41,12 @@ cast-t12 c = record { fits = omega (arith, counted-le _ _ (c .silenced-count .en
 returns : tie.Need-returns
 returns c =
     let r = c .before .before .before .read in
-    simp (refused-as (r .result) (r .ensures) _ (c .before .answer .given .1))
+    check-numbers (reading (c .before .before .before .before .before .args .s .now)) (simp (refused-as (r .result) (r .ensures) _ (c .before .answer .given .1)))
 
 returns-2 : tie.Need-returns-2
 returns-2 c =
     let k = c .before .before .before .before .before .before in
-    simp (is-accepted k, c .before .before .described-count .ensures, c .silenced-count .ensures)
+    check-numbers (reading (c .before .before .before .before .before .before .before .before .before .before .args .s .now)) (simp (is-accepted k, c .before .before .described-count .ensures, c .silenced-count .ensures))
 
 pub check-spec : {M : Type 1} → statement M
 check-spec =

@@ -55,7 +55,7 @@ returns-3 c =
     let k = c .before .before .before .before .before .before .before in
     let out = k .before .before .before .before .before .args .out .now in
     let w = written (is-accepted k) out (c .before .before .before .before .before .line-bytes .ensures) (c .before .before .before .before .if1 .left) in
-    (w .0, c .before .before .put-line .ensures ∙ w .1)
+    (w .0, (w .1 .0, c .before .before .put-line .ensures ∙ w .1 .1))
 
 pub tidy-spec : {M : Type 1} → statement M
 tidy-spec =
