@@ -11,7 +11,7 @@ use Rattle.line.specs.declared.Slot.the-variants.{Undescribed, Described
 use Rattle.line.specs.declared.Entry.{Entry}
 use Rattle.line.specs.declared.Steps.{Steps}
 use Rattle.line.specs.declared.Line.{Line}
-use Rattle.line.specs.Tone.{InRange, Gap, cost, power, step, limit, doublings}
+use Rattle.line.specs.Tone.{carried, InRange, Gap, cost, power, step, limit, doublings}
 
 -- an entry with no tone described
 abbrev pub blank : Entry
@@ -28,6 +28,11 @@ abbrev pub powerOf : (g : ℕ) → Slot → (b : ℕ) → ℕ
 powerOf g Undescribed b = 0
 powerOf g (Described t) b = power t (cost g t) b
 
+-- the mask of a tone, 0 where none is described
+abbrev pub maskOf : Slot → ℕ
+maskOf Undescribed = 0
+maskOf (Described t) = carried t .mask
+
 -- The tones of a line, with the limits and powers that the runs go by.
 abbrev pub tones : Line → Tones
 tones l = record {
@@ -40,6 +45,11 @@ tones l = record {
 abbrev pub SlotInRange : Slot → Type 0
 SlotInRange Undescribed = Unit {0}
 SlotInRange (Described t) = InRange t
+
+-- bits that the cap allows
+abbrev pub AtMostCap : Slot → (b : ℕ) → Type 0
+AtMostCap Undescribed b = Unit {0}
+AtMostCap (Described t) b = b ≤ carried t .cap
 
 pub record EntryInRange (e : Entry) : Type 0 where
   pub slot-in-range : SlotInRange (e .slot)

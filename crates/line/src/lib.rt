@@ -1,7 +1,7 @@
 // One tone of a line, and the line: document 01, 'Cost, power and limit of a tone'.
 ghost use mathlib.Core.Path.{_≡_};
 ghost use Prim.Native.Nat.{ℕ, _+_, _≤_, _<_};
-ghost use Rattle.line.specs.Line.{EntryInRange, stepsOf};
+ghost use Rattle.line.specs.Line.{EntryInRange, AtMostCap, powerOf, stepsOf};
 ghost use Rattle.line.specs.Tone.{carried, doublings, InRange, Gap, Cost, cost, power, step, limit};
 
 // What a tone of either kind carries: noise, gain, cap and mask.
@@ -141,5 +141,17 @@ pub fn steps_of(gap: u16, entry: Entry, silenced: bool) -> Steps
                 doublings: doublings(tone),
             }
         }
+    }
+}
+
+// The power of an entry at a number of bits, at most its cap: none where no tone is described.
+pub fn power_of(gap: u16, entry: Entry, bits: u8) -> u64
+    requires { ⌜ Gap gap × EntryInRange entry × AtMostCap (entry .slot) bits ⌝ }
+    ensures { λ r. ⌜ r ≡ powerOf gap (entry .slot) bits ⌝ }
+{
+    let slot = entry.slot;
+    match slot {
+        Slot::Undescribed => 0,
+        Slot::Described(tone) => power(tone, cost(gap, tone), bits),
     }
 }

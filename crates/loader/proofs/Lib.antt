@@ -1,3 +1,3 @@
-pub mod Starts
 pub mod SameLoading
 pub mod Written
+pub mod Outcomes

@@ -1,4 +1,4 @@
--- Demand 3 over all accepted sheets and all starting tables that keep the limits, of the definitions that the calls are to cite.
+-- Demand 3 over all accepted sheets and all starting tables that keep the limits, of the definitions that the calls cite.
 -- Assumes nothing.
 use mathlib.Core.List.{List, _∷_, [], _++_}
 use mathlib.Core.Path.{_≡_, ap, sym, _∙_}
@@ -11,23 +11,26 @@ use Rattle.steps.specs.Claims.{Demand3}
 use Rattle.line.specs.declared.Line.{Line}
 use Rattle.line.specs.Line.{tones}
 use Rattle.line.proofs.Loads.{line-demand-3}
-use Rattle.command.specs.Refusals.{Outcome, success}
+use Rattle.command.specs.Refusals.{success}
+use Rattle.starts.proofs.Above.{none-above}
+use Rattle.tables.specs.Tables.{tableBytes}
+use Rattle.lineloads.specs.Loads.{Loading, loaded, mostOn, loadOutcome, afterLoading}
+use Rattle.lineloads.specs.Refits.{refitOn}
+use Rattle.lineloads.proofs.Outcomes.{most-fits}
 use Rattle.sheet.specs.Reading.{accepted, reading}
 use Rattle.sheet.proofs.Sound.{Bytes}
 use Rattle.sheet.proofs.Accepted.{accepted-sound}
-use Rattle.loader.specs.Tables.{tableBytes}
-use Rattle.loader.specs.Calls.{Loading, loaded, loadMost, refit, loadNumbers, afterLoading}
+use Rattle.loader.specs.Calls.{loadMost, refit}
 use Rattle.loader.specs.Claims.{SameLoading}
-use Rattle.loader.proofs.Starts.{none-above}
 
 module _ (sheet : List ℕ) (b : Bytes sheet) (l : Line) (e : reading sheet ≡ accepted l) where
   most-is : (room : ℕ) → 9 * l .size ≤ room → loadMost sheet room ≡ loaded l (mostBits (tones l) (l .budget))
   unfolding loadMost
-  most-is room h = simp (e, le-ltb room (9 * l .size) h)
+  most-is room h = simp e (most-fits l h)
 
   refit-is : (start : List ℕ) → KeepsLimits (tones l) start → (room : ℕ) → 9 * l .size ≤ room
       → refit sheet start room ≡ loaded l (refitRun (tones l) (l .budget) start)
-  unfolding refit
+  unfolding refit refitOn
   refit-is start w room h =
       simp (e, le-ltb room (9 * l .size) h, eq-eqb (length start) (l .size) (w .sized), none-above (tones l) start (l .size) (w .under))
 
@@ -37,7 +40,7 @@ module _ (sheet : List ℕ) (b : Bytes sheet) (l : Line) (e : reading sheet ≡ 
     most-bits = m;
     re-fit = r;
     same-bytes = λ old. ap (λ (x : Loading). afterLoading x old) r ∙ ap (λ (t : Table). tableBytes (tones l) t ++ drop (9 * l .size) old) (D .same-table) ∙ sym (ap (λ (x : Loading). afterLoading x old) m);
-    same-totals = ap loadNumbers r ∙ ap (λ (t : Table). success (totalBits (tones l) t ∷ totalPower (tones l) t ∷ [])) (D .same-table) ∙ sym (ap loadNumbers m);
+    same-totals = ap loadOutcome r ∙ ap (λ (t : Table). success (totalBits (tones l) t ∷ totalPower (tones l) t ∷ [])) (D .same-table) ∙ sym (ap loadOutcome m);
     runs = D;
   }
     where

@@ -1,21 +1,19 @@
 -- What is proved of the loading calls: demand 3 on bytes, and what the technician checks every morning.
 -- Assumes nothing.
-use mathlib.Core.Bool.{Bool, true, false}
 use mathlib.Core.List.{List}
 use mathlib.Core.Path.{_≡_}
 use Prim.Native.Nat.{ℕ, _+_, _*_, _≤_, _<_}
 use lib.ListN.{getD}
 use Rattle.bigendian.specs.Number.{number}
-use Rattle.steps.specs.Tones.{Table, _!_, totalPower}
+use Rattle.steps.specs.Tones.{Table, _!_, totalPower, KeepsLimits}
 use Rattle.steps.specs.Runs.{mostBits, refitRun}
 use Rattle.steps.specs.Claims.{Demand3}
 use Rattle.line.specs.declared.Line.{Line}
-use Rattle.line.specs.declared.Slot.{Slot}
-use Rattle.line.specs.declared.Slot.the-variants.{Undescribed, Described}
-use Rattle.line.specs.Tone.{carried}
-use Rattle.line.specs.Line.{blank, tones}
-use Rattle.loader.specs.Tables.{tableBytes}
-use Rattle.loader.specs.Calls.{Loading, loaded, loadMost, refit, loadNumbers, afterLoading}
+use Rattle.line.specs.Line.{blank, maskOf, tones}
+use Rattle.tables.specs.Tables.{tableBytes}
+use Rattle.lineloads.specs.Loads.{loaded, loadOutcome, afterLoading}
+use Rattle.sheet.specs.Reading.{accepted, reading}
+use Rattle.loader.specs.Calls.{loadMost, refit}
 
 -- Demand 3 of the two calls, on one accepted sheet and one starting table that keeps its limits, into buffers with room enough:
 -- the same table and powers byte for byte, the same total bits and total power, and all that `Demand3` of crate steps says of the runs:
@@ -24,14 +22,14 @@ pub record SameLoading (sheet start : List ℕ) (l : Line) (room room′ : ℕ) 
   pub most-bits : loadMost sheet room ≡ loaded l (mostBits (tones l) (l .budget))
   pub re-fit : refit sheet start room′ ≡ loaded l (refitRun (tones l) (l .budget) start)
   pub same-bytes : (old : List ℕ) → afterLoading (refit sheet start room′) old ≡ afterLoading (loadMost sheet room) old
-  pub same-totals : loadNumbers (refit sheet start room′) ≡ loadNumbers (loadMost sheet room)
+  pub same-totals : loadOutcome (refit sheet start room′) ≡ loadOutcome (loadMost sheet room)
   pub runs : Demand3 (tones l) (l .budget) start
 
--- the mask of a tone, 0 where none is described
-abbrev pub maskOf : Slot → ℕ
-maskOf Undescribed = 0
-maskOf (Described t) = carried t .mask
+-- It holds wherever the sheet is accepted, the starting table keeps its limits and there is room for the table.
+abbrev pub Demand3On : (sheet start : List ℕ) → (room : ℕ) → Type 0
+Demand3On sheet start room = (l : Line) → reading sheet ≡ accepted l → KeepsLimits (tones l) start → 9 * l .size ≤ room → SameLoading sheet start l room room
 
+-- the mask of tone i, 0 where none is described
 abbrev pub maskAt : Line → (i : ℕ) → ℕ
 maskAt l i = maskOf (getD (l .entries) i blank .slot)
 

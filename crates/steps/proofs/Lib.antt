@@ -10,4 +10,5 @@ pub mod Run
 pub mod Left
 pub mod Demand3
 pub mod SetBits
+pub mod Enough
 pub mod Examples

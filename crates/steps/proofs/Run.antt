@@ -1,12 +1,23 @@
 -- A run of any rule: if every move uses up one of n, a run that may make n moves ends where the rule answers 'finished',
 -- and its count is that of the steps that answered 'moved'.
 -- Assumes nothing.
-use mathlib.Core.Path.{_≡_, refl}
+use mathlib.Core.Path.{_≡_, refl, ap}
 use Prim.Native.Nat.{ℕ, zero, suc, _-_, _≤_, _<_}
 use native.Mathlib.Omega.{arith}
 use Rattle.steps.specs.Tones.{Table}
 use Rattle.steps.specs.Runs.{Answer, moved, finished, Ran, follow, run}
 use Rattle.steps.specs.Claims.{Moves, none-left, one-more}
+
+-- where the rule moves, a run is that of one move fewer from the table that it leaves, and one move
+pub run-moved : (rule : Table → Answer) (k : ℕ) (t : Table) {u : Table} → rule t ≡ moved u → run rule (suc k) t ≡ record { table = run rule k u .table; moves = suc (run rule k u .moves) }
+unfolding run follow
+run-moved rule k t e = ap (follow (run rule k) t) e
+
+-- where it answers 'finished', a run makes no move
+pub run-finished : (rule : Table → Answer) (k : ℕ) (t : Table) → rule t ≡ finished → run rule k t ≡ record { table = t; moves = 0 }
+unfolding run follow
+run-finished rule zero t e = refl
+run-finished rule (suc k) t e = ap (follow (run rule k) t) e
 
 pub record Ends (rule : Table → Answer) (Good : ℕ → Table → Type 0) (n : ℕ) (t : Table) (r : Ran) : Type 0 where
   pub left : ℕ

@@ -22,6 +22,13 @@ sum-le zero f g h = omega arith
 sum-le (suc n) f g h =
     omega (arith, sum-le n f g (λ i l. h i (omega arith)), h n (omega arith))
 
+-- entries of at most m add up to at most m for each
+pub sum-at-most : (n m : ℕ) (f : ℕ → ℕ) → ((i : ℕ) → i < n → f i ≤ m) → sum n f ≤ n * m
+unfolding sum
+sum-at-most zero m f h = omega arith
+sum-at-most (suc n) m f h =
+    omega (arith, sum-at-most n m f (λ i l. h i (omega arith)), h n (omega arith))
+
 pub sum-eq : (n : ℕ) (f g : ℕ → ℕ) → ((i : ℕ) → i < n → f i ≡ g i) → sum n f ≡ sum n g
 unfolding sum
 sum-eq zero f g h = refl

@@ -1,12 +1,12 @@
 -- How long the tidy form and its parts are. Assumes nothing.
 use mathlib.Core.Path.{_≡_, refl, ap, _∙_}
-use mathlib.Core.List.{List, [], _∷_, _++_}
-use Prim.Native.Nat.{ℕ, suc, _+_, _≤_, _<_}
-use native.Mathlib.Decide.{le-ind}
+use mathlib.Core.List.{List, [], _∷_}
+use Prim.Native.Nat.{ℕ, _≤_}
 use native.Mathlib.Omega.{arith}
 use borrow.Author.Tests.{eq-eqb, ne-eqb}
 use lib.ListN.{length, getD, length-append}
 use Rattle.bigendian.proofs.Numbers.{length-bytes}
+use Rattle.bigendian.proofs.Stores.{Growing}
 use Rattle.command.specs.Rows.{silence}
 use Rattle.line.specs.declared.Kind.{Kind}
 use Rattle.line.specs.declared.Kind.the-variants.{Pair, Single}
@@ -45,10 +45,6 @@ length-no-word word e = ap length (no-word word e)
 
 -- The tones and the words: lists that grow by one part at a time.
 
-pub record Growing (whole part : ℕ → List ℕ) : Type 0 where
-  pub none : whole 0 ≡ []
-  pub next : (n : ℕ) → whole (suc n) ≡ whole n ++ part n
-
 pub tones-grow : (entries : List Entry) → Growing (λ n. toneBytes n entries) (λ n. slotBytes n (getD entries n blank .slot))
 unfolding toneBytes
 tones-grow entries = record { none = refl; next = λ n. refl }
@@ -56,16 +52,3 @@ tones-grow entries = record { none = refl; next = λ n. refl }
 pub words-grow : (maps : List ℕ) → Growing (λ n. mapBytes n maps) (λ n. wordBytes n (getD maps n 0))
 unfolding mapBytes
 words-grow maps = record { none = refl; next = λ n. refl }
-
-module _ {whole part : ℕ → List ℕ} (G : Growing whole part) where
-  pub length-none : length (whole 0) ≡ 0
-  length-none = ap length (G .none)
-
-  pub length-next : (i : ℕ) → length (whole (suc i)) ≡ length (whole i) + length (part i)
-  length-next i = ap length (G .next i) ∙ length-append (whole i) (part i)
-
-  -- the parts up to the next one are no longer than the whole
-  pub length-part-le : {i n : ℕ} → i < n → length (whole i) + length (part i) ≤ length (whole n)
-  length-part-le {i} {n} h =
-      let longer = le-ind (λ (k : ℕ). length (whole (suc i)) ≤ length (whole k)) (omega arith) (λ k l p. omega (arith, length-next k)) n h in
-      omega (arith, length-next i)

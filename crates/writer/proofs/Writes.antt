@@ -1,25 +1,18 @@
 -- Runs of stores, one after the other: what the tidy form leaves in a lent buffer. Assumes nothing.
-use mathlib.Core.Path.{_≡_, refl, sym, ap, _∙_}
+use mathlib.Core.Path.{_≡_, refl, _∙_}
 use mathlib.Core.List.{List, [], _∷_, _++_, append-assoc}
-use Prim.Native.Nat.{ℕ, suc, _+_, _≤_, _<_}
-use native.Mathlib.Numerals.{unary-clauses, add-one}
+use Prim.Native.Nat.{ℕ, suc, _+_}
+use native.Mathlib.Numerals.{add-one}
 use native.Mathlib.Omega.{arith}
 use lib.ListN.{length, set}
-use lib.Seq.{sets, length-sets}
+use lib.Seq.{sets}
 use Rattle.bigendian.specs.Number.{bytes}
 use Rattle.bigendian.proofs.Numbers.{length-bytes}
+use Rattle.bigendian.proofs.Stores.{sets-append}
 use Rattle.command.specs.Rows.{size, gap, budget, pair, silence, end}
 use Rattle.line.specs.declared.Numbers.{Numbers}
 use Rattle.line.specs.declared.Line.{Line}
-use Rattle.writer.proofs.Lengths.{Growing, length-none, length-next, length-part-le}
 use Rattle.sheet.specs.Tidy.{operandBytes, written, numbersOf, toneBytes, mapBytes, tidy}
-
--- One list after another.
-pub sets-append : (l : List ℕ) (i : ℕ) (xs ys : List ℕ) → sets l i (xs ++ ys) ≡ sets (sets l i xs) (i + length xs) ys
-sets-append l i [] ys = simp unary-clauses
-sets-append l i (x ∷ xs) ys =
-    let e : i + suc (length xs) ≡ suc i + length xs = omega arith in
-    rw e (sets-append (set l i x) (suc i) xs ys)
 
 -- a number, and what comes after it at j
 pub sets-bytes : (l : List ℕ) (i w v : ℕ) (rest : List ℕ) (j : ℕ) → i + w ≡ j → sets l i (bytes w v ++ rest) ≡ sets (sets l i (bytes w v)) j rest
@@ -64,26 +57,3 @@ line-stores out l = stores (l .size) (l .gap) (l .budget) (toneBytes (l .size) (
         ∙ sets-bytes _ 7 8 b _ 15 refl
         ∙ sets-append _ 15 tones _
         ∙ sets-append _ _ words (7 ∷ []))
-
--- The loops: the first i parts of a whole are written from a place on.
-pub record Written (whole : ℕ → List ℕ) (out₀ : List ℕ) (at i : ℕ) (out : List ℕ) (place : ℕ) : Type 0 where
-  pub place-is : place ≡ at + length (whole i)
-  pub stores : out ≡ sets out₀ at (whole i)
-  pub same-length : length out ≡ length out₀
-
-module _ {whole part : ℕ → List ℕ} (G : Growing whole part) (out₀ : List ℕ) (at : ℕ) where
-  pub written-none : Written whole out₀ at 0 out₀ at
-  written-none = record { place-is = omega (arith, length-none G); stores = rw (G .none); same-length = refl }
-
-  -- the next part has room where the whole has
-  pub written-room : {i n place : ℕ} {out : List ℕ} → Written whole out₀ at i out place
-      → i < n → at + length (whole n) ≤ length out₀ → place + length (part i) ≤ length out
-  written-room W h fits = omega (arith, length-part-le G h)
-
-  pub written-next : {i place place′ : ℕ} {out out′ : List ℕ} → Written whole out₀ at i out place
-      → place′ ≡ place + length (part i) → out′ ≡ sets out place (part i) → Written whole out₀ at (i + 1) out′ place′
-  written-next {i} {place} {place′} {out} {out′} W e s = rw add-one (record {
-    place-is = omega (arith, length-next G i);
-    stores = s ∙ rw (W .place-is, W .stores, G .next i) (sym (sets-append out₀ at (whole i) (part i)));
-    same-length = ap length s ∙ length-sets out place (part i) ∙ W .same-length;
-  })

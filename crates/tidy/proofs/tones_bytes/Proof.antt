@@ -6,7 +6,8 @@ use Prim.Native.Nat.{_+_, _-_, _*_, _≤_}
 use lib.ListN.{length, getD}
 use Rattle.line.specs.Line.{blank}
 use Rattle.sheet.specs.Tidy.{toneBytes}
-use Rattle.writer.proofs.Lengths.{tones-grow, length-none, length-next, length-slot-le}
+use Rattle.bigendian.proofs.Stores.{length-none, length-next}
+use Rattle.writer.proofs.Lengths.{tones-grow, length-slot-le}
 use borrow.Author.Needs.{needs}
 use Rattle.tidy.proofs.tones_bytes.Statement.{statement}
 use Rattle.tidy.proofs.tones_bytes.Tie as tie

@@ -6,7 +6,8 @@ use native.Mathlib.Omega.{arith}
 use Prim.Native.Nat.{_-_, _*_, _≤_}
 use lib.ListN.{length}
 use Rattle.sheet.specs.Tidy.{mapBytes}
-use Rattle.writer.proofs.Lengths.{words-grow, length-none, length-next, length-word, length-no-word}
+use Rattle.bigendian.proofs.Stores.{length-none, length-next}
+use Rattle.writer.proofs.Lengths.{words-grow, length-word, length-no-word}
 use Rattle.tidy.proofs.words_bytes.Statement.{statement}
 use Rattle.tidy.proofs.words_bytes.Tie as tie
 

@@ -2,9 +2,9 @@
 use mathlib.Core.Path.{_≡_}
 use native.Mathlib.Omega.{arith}
 use Prim.Native.Nat.{_-_, _≤_}
+use Rattle.bigendian.proofs.Stores.{Written, written-none, written-room, written-next}
 use Rattle.sheet.specs.Tidy.{mapBytes}
 use Rattle.writer.proofs.Lengths.{words-grow}
-use Rattle.writer.proofs.Writes.{Written, written-none, written-room, written-next}
 use Rattle.writer.proofs.put_words.Statement.{statement}
 use Rattle.writer.proofs.put_words.Tie as tie
 

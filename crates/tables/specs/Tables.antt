@@ -1,13 +1,13 @@
 -- Tables as bytes. Document 01, 'The line sheet': 'A loading writes 9 bytes a tone, from tone 0 up: bits, then power in 8 bytes, high
--- byte first'; 'A re-fit's starting table is one byte of bits a tone.'
+-- byte first'.
 -- Assumes nothing.
 use mathlib.Core.List.{List, [], _∷_, _++_}
-use mathlib.Core.Option.{Option, none, some}
-use Prim.Native.Nat.{ℕ, zero, suc}
-use native.Mathlib.Decide.{decLt}
-use mathlib.Core.Logic.{ite}
+use Prim.Native.Nat.{ℕ, zero, suc, _≤_, _<_}
+use lib.ListN.{getD}
 use Rattle.bigendian.specs.Number.{bytes}
 use Rattle.steps.specs.Tones.{Tones, Table, _!_}
+use Rattle.line.specs.declared.Line.{Line}
+use Rattle.line.specs.Line.{tones}
 
 -- the 9 bytes of tone i
 abbrev pub toneEntry : Tones → Table → (i : ℕ) → List ℕ
@@ -21,13 +21,6 @@ entriesBelow T t (suc n) = entriesBelow T t n ++ toneEntry T t n
 abbrev pub tableBytes : Tones → Table → List ℕ
 tableBytes T t = entriesBelow T t (T .count)
 
--- the first of two that is there
-unfoldable pub orElse : Option ℕ → Option ℕ → Option ℕ
-orElse (some i) o = some i
-orElse none o = o
-
--- 'the first such tone': of the tones below n, the first with more bits than its limit
-unfoldable pub firstAbove : Tones → Table → (n : ℕ) → Option ℕ
-unfolding orElse
-firstAbove T t zero = none
-firstAbove T t (suc n) = orElse (firstAbove T t n) (ite (decLt (T .limit n) (t ! n)) (some n) none)
+-- no tone of the line has more bits than its limit
+pub record UnderLimits (l : Line) (bits : List ℕ) : Type 0 where
+  pub under : (i : ℕ) → i < l .size → getD bits i 0 ≤ tones l .limit i

@@ -1,0 +1,72 @@
+// The bench program: reads a sheet from standard input, loads it for most bits and prints the table. Document 01, 'Sample line'.
+ghost use Prim.Native.Nat.{_*_, _≤_};
+ghost use lib.ListN.{length};
+use command::Refusal;
+use command::refusal_number;
+use command::refusal_place;
+use lineloads::Loaded;
+use sheet::Checked;
+
+fn print(text: &[u8]) {
+    io::write_all(1, text);
+}
+
+// Two numbers, with a blank before each.
+fn print_two(first: u64, second: u64) {
+    print(b" ");
+    io::print_decimal(1, first);
+    print(b" ");
+    io::print_decimal(1, second);
+    print(b"\n");
+}
+
+// A line for each tone: its number, its bits and its power.
+fn print_table(table: &[u8], size: usize)
+    requires { ⌜ 9 * size ≤ length (now table) ⌝ }
+{
+    let mut tone: usize = 0;
+    while tone < size {
+        io::print_decimal(1, tone as u64);
+        print_two(
+            bigendian::number_at(table, 9 * tone, 1),
+            bigendian::number_at(table, 9 * tone + 1, 8),
+        );
+        tone += 1;
+    }
+}
+
+fn print_refusal(why: Refusal) {
+    print(b"refused");
+    print_two(refusal_number(why) as u64, refusal_place(why) as u64);
+}
+
+// Loads an accepted sheet of so many tones.
+fn show_loading(sheet: &[u8], size: usize)
+    requires { ⌜ size ≤ 256 ⌝ }
+{
+    let mut table = [0u8; 2304];
+    let loaded = loader::load_most(sheet, &mut table);
+    match loaded {
+        Loaded::Refused(why) => print_refusal(why),
+        Loaded::Totals(bits, power) => {
+            print_table(&table, size);
+            print(b"total");
+            print_two(bits as u64, power);
+        }
+    }
+}
+
+fn show(sheet: &[u8]) {
+    let checked = loader::check(sheet);
+    match checked {
+        Checked::Refused(why) => print_refusal(why),
+        Checked::Counts(size, _, _) => show_loading(sheet, size as usize),
+    }
+}
+
+// A sheet of more than 4,096 bytes arrives as one, whether or not all of it fits the buffer.
+fn main() {
+    let mut input = io::large_buffer();
+    let n = io::read_full(0, &mut input);
+    show(&input[..n]);
+}

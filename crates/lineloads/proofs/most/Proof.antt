@@ -1,0 +1,60 @@
+-- `lineloads::most` meets its contract. Assumes nothing.
+use mathlib.Core.Path.{ap}
+use native.Mathlib.Omega.{arith}
+use Prim.Native.Nat.{ℕ}
+use borrow.Author.Needs.{needs}
+use Rattle.steps.specs.Runs.{Ran, mostBits}
+use Rattle.line.specs.Line.{tones}
+use Rattle.starts.specs.Starts.{Stands}
+use Rattle.lineloads.proofs.Runs.{most-run}
+use Rattle.lineloads.proofs.Outcomes.{Wrote, load-refused, load-done, most-short, most-fits}
+use Rattle.lineloads.proofs.most.Statement.{statement}
+use Rattle.lineloads.proofs.most.Tie as tie
+
+cast-if1 : tie.Need-cast-if1
+cast-if1 c = search needs
+
+mul-if1 : tie.Need-mul-if1
+mul-if1 c = search needs
+
+returns : tie.Need-returns
+returns c = load-refused _ (most-short _ (c .if1 .taken))
+
+add-requires : tie.Need-add-requires
+add-requires c κs = search needs
+
+-- the running table is where the run for most bits ends
+stands : (c : tie.After-add) → Stands (c .before .before .before .before .args .line) (c .add .result) (mostBits (tones (c .before .before .before .before .args .line)) (c .before .before .before .before .args .line .budget) .table)
+stands c =
+    let k = c .before .before .before .before in
+    rw (most-run (k .args .line) (k .pre)) at (c .add .ensures)
+
+write-requires : tie.Need-write-requires
+write-requires c κs =
+    let k = c .before .before .before .before .before .before in
+    (k .pre, record { table = _; stands = stands (c .before .before) }, c .before .before .before .if1 .left)
+
+total-bits-requires : tie.Need-total-bits-requires
+total-bits-requires c κs =
+    omega (arith, c .before .before .before .before .before .before .before .before .before .before .pre .size-high)
+
+same-length : tie.Need-same-length
+same-length c = search needs
+
+returns-2 : tie.Need-returns-2
+returns-2 c =
+    let a = c .before .before .before .before .before .before .before in
+    load-done (most-fits _ (a .before .if1 .left)) (record { stands = stands a; added-up = c .total-bits .ensures; written = c .before .before .before .before .write .ensures _ (stands a) })
+
+pub most-spec : {M : Type 1} → statement M
+most-spec =
+    tie.close
+    (tie.spec
+    cast-if1
+    mul-if1
+    returns
+    add-requires
+    write-requires
+    total-bits-requires
+    same-length
+    returns-2)

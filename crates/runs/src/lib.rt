@@ -1,0 +1,78 @@
+// The runs: steps of a rule until one answers 'finished'. Document 01, 'The loading runs'.
+ghost use mathlib.Core.Path.{_≡_};
+ghost use Rattle.steps.specs.Tones.{Tones, Table};
+ghost use Rattle.steps.specs.Runs.{run};
+ghost use Rattle.loading.specs.Running.{StandsFor, Runnable, HandsBack};
+ghost use Rattle.runs.specs.Runs.{ruleOf, EndsAs};
+use loading::Answer;
+use loading::Running;
+use loading::Stepped;
+
+// Adding takes the earliest free step; re-fitting exchanges, gives up or takes.
+pub enum Rule {
+    Add,
+    Refit,
+}
+
+// Where a run ends, and how many of its steps moved.
+pub struct Ran {
+    pub running: Running,
+    pub moves: u32,
+}
+
+// One step of a rule.
+fn step(
+    running: Running,
+    rule: Rule,
+    budget: u64,
+    count: usize,
+    limits: &[u8; 256],
+    firsts: &[u64; 256],
+    doublings: &[u8; 256],
+) -> Stepped
+    requires { ⌜ Runnable count (now limits) (now firsts) (now doublings) running ⌝ }
+    ensures { λ r. ⌜ ((T : Tones) (t : Table) → StandsFor count (now (limits .entry)) (now (firsts .entry)) (now (doublings .entry)) running T t → HandsBack count (now (limits .entry)) (now (firsts .entry)) (now (doublings .entry)) running r T (ruleOf rule T budget t)) ⌝ }
+{
+    match rule {
+        Rule::Add => running.add_step(budget, count, limits, firsts, doublings),
+        Rule::Refit => running.refit_step(budget, count, limits, firsts, doublings),
+    }
+}
+
+// Steps of a rule until one answers 'finished', or until `most` of them have moved.
+pub fn run(
+    running: Running,
+    rule: Rule,
+    most: u32,
+    budget: u64,
+    count: usize,
+    limits: &[u8; 256],
+    firsts: &[u64; 256],
+    doublings: &[u8; 256],
+) -> Ran
+    requires { ⌜ Runnable count (now limits) (now firsts) (now doublings) running ⌝ }
+    ensures { λ r. ⌜ ((T : Tones) (t : Table) → StandsFor count (now (limits .entry)) (now (firsts .entry)) (now (doublings .entry)) running T t → EndsAs count (now (limits .entry)) (now (firsts .entry)) (now (doublings .entry)) r T (run (ruleOf rule T budget) most t)) ⌝ }
+{
+    let mut table = running;
+    let mut moves: u32 = 0;
+    while moves < most {
+        let stepped = step(table, rule, budget, count, limits, firsts, doublings);
+        table = stepped.running;
+        let answer = stepped.answer;
+        match answer {
+            Answer::Finished => {
+                return Ran {
+                    running: table,
+                    moves: moves,
+                };
+            }
+            Answer::Moved => {
+                moves += 1;
+            }
+        }
+    }
+    Ran {
+        running: table,
+        moves: moves,
+    }
+}

@@ -1,0 +1,61 @@
+-- Moves that are enough are as good as any more; and adding a set number of bits is adding so many moves.
+-- Assumes nothing.
+use mathlib.Core.Path.{_≡_, refl, ap, _∙_}
+use mathlib.Core.Logic.{if-pos, if-neg}
+use Prim.Native.Nat.{ℕ, zero, suc, _+_, _-_, _≤_, _<_}
+use native.Mathlib.Decide.{decLt}
+use native.Mathlib.Nat.{not-suc-le-zero}
+use native.Mathlib.Omega.{arith}
+use Rattle.steps.specs.Tones.{Tones, Rising, Table, _!_, noBits, totalBits, sumOfLimits, KeepsLimits, KeepsBudget}
+use Rattle.steps.specs.Runs.{Answer, moved, finished, addStep, addStepTo, refitStep, Ran, follow, run, mostBits, refitRun, carrying, setBits}
+use Rattle.steps.proofs.Sums.{sum-zero}
+use Rattle.steps.proofs.Run.{run-moved, run-finished}
+use Rattle.steps.proofs.Demand3.{Adding, refit-ends, add-moves, no-bits-at, adding-starts, adding-ends}
+
+-- a run that has ended stays where it is, however many more moves it may make
+pub run-more : (rule : Table → Answer) (k j : ℕ) (t : Table) → rule (run rule k t .table) ≡ finished → k ≤ j → run rule j t ≡ run rule k t
+unfolding run follow
+run-more rule zero j t e l = run-finished rule j t e
+run-more rule (suc k) zero t e l = absurd (not-suc-le-zero l)
+run-more rule (suc k) (suc j) t e l = go (rule t) e (λ u. run-more rule k j u)
+  where
+    go : (a : Answer) → rule (follow (run rule k) t a .table) ≡ finished → ((u : Table) → rule (run rule k u .table) ≡ finished → k ≤ j → run rule j u ≡ run rule k u)
+        → follow (run rule j) t a ≡ follow (run rule k) t a
+    go finished q ih = refl
+    go (moved u) q ih = ap (λ (r : Ran). record { table = r .table; moves = suc (r .moves) }) (ih u q (omega arith))
+
+module _ (T : Tones) (R : Rising T) (budget : ℕ) (base : KeepsBudget T budget (noBits T)) where
+  pub most-bits-enough : (k : ℕ) → sumOfLimits T ≤ k → run (addStep T budget) k (noBits T) ≡ mostBits T budget
+  most-bits-enough k l = run-more (addStep T budget) (sumOfLimits T) k (noBits T) (adding-ends T R budget base .stops) l
+
+  pub refit-enough : {t : Table} → KeepsLimits T t → (k : ℕ) → sumOfLimits T ≤ k → run (refitStep T budget) k t ≡ refitRun T budget t
+  refit-enough {t} w k l = run-more (refitStep T budget) (sumOfLimits T) k t (refit-ends T R budget base w .stops) l
+
+  -- from a table that is k bits short of the target, adding up to it is adding k
+  adds : (target k m n : ℕ) (t : Table) → Adding T budget n t → n ≤ m → totalBits T t + k ≡ target → run (addStepTo T budget target) m t .table ≡ run (addStep T budget) k t .table
+  unfolding run follow addStepTo
+  adds target zero m n t A l e =
+      ap (λ (r : Ran). r .table) (run-finished (addStepTo T budget target) m t (if-neg (decLt (totalBits T t) target) (λ q. omega arith) _ _))
+  adds target (suc k) m n t A l e = go (addStep T budget t) refl (λ m n u. adds target k m n u)
+    where
+      to : addStepTo T budget target t ≡ addStep T budget t
+      to = if-pos (decLt (totalBits T t) target) (omega arith) _ _
+
+      go : (a : Answer) → addStep T budget t ≡ a
+          → ((m n : ℕ) (u : Table) → Adding T budget n u → n ≤ m → totalBits T u + k ≡ target → run (addStepTo T budget target) m u .table ≡ run (addStep T budget) k u .table)
+          → run (addStepTo T budget target) m t .table ≡ follow (run (addStep T budget) k) t a .table
+      go finished q ih = ap (λ (r : Ran). r .table) (run-finished (addStepTo T budget target) m t (to ∙ q))
+      go (moved u) q ih =
+          let f = add-moves T R budget base A q in
+          let j : m ≡ suc (m - 1) = omega arith in
+          ap (λ (x : ℕ). run (addStepTo T budget target) x t .table) j
+          ∙ ap (λ (r : Ran). r .table) (run-moved (addStepTo T budget target) (m - 1) t (to ∙ q))
+          ∙ ih (m - 1) (n - 1) u (f .1) (omega arith) (omega arith)
+
+  -- from no bits every move adds one, so the run that stops at the target is the one that makes so many moves
+  pub set-bits-adds : (target : ℕ) → setBits T budget target ≡ carrying T target (run (addStep T budget) target (noBits T) .table)
+  unfolding setBits
+  set-bits-adds target =
+      ap (carrying T target)
+      (adds target target (sumOfLimits T) (sumOfLimits T) (noBits T) (adding-starts T R budget base) (omega arith)
+      (omega (arith, sum-zero (T .count) (λ i. noBits T ! i) (no-bits-at T R budget base))))

@@ -1,0 +1,40 @@
+-- The bytes of a table: how many they are, what they go by, and what a buffer holds once they are written at its start.
+-- Assumes nothing.
+use mathlib.Core.List.{List, _++_}
+use mathlib.Core.Path.{_≡_, refl, ap, _∙_}
+use Prim.Native.Nat.{ℕ, zero, suc, _+_, _*_, _≤_, _<_}
+use native.Mathlib.Omega.{arith}
+use lib.ListN.{length, drop}
+use lib.Seq.{sets, sets-eq}
+use Rattle.bigendian.proofs.Numbers.{length-bytes}
+use Rattle.bigendian.proofs.Stores.{Growing, length-none, length-next}
+use Rattle.steps.specs.Tones.{Tones, Table, _!_}
+use Rattle.tables.specs.Tables.{toneEntry, entriesBelow, tableBytes}
+
+-- tone by tone
+pub entries-grow : (T : Tones) (t : Table) → Growing (entriesBelow T t) (toneEntry T t)
+unfolding entriesBelow
+entries-grow T t = record { none = refl; next = λ n. refl }
+
+-- 9 bytes a tone
+pub length-entry : (T : Tones) (t : Table) (i : ℕ) → length (toneEntry T t i) ≡ 9
+length-entry T t i = omega (arith, length-bytes 8 (T .power i (t ! i)))
+
+pub length-entries : (T : Tones) (t : Table) (n : ℕ) → length (entriesBelow T t n) ≡ 9 * n
+length-entries T t zero = length-none (entries-grow T t)
+length-entries T t (suc n) = omega (arith, length-next (entries-grow T t) n, length-entries T t n, length-entry T t n)
+
+same-entries : (T : Tones) (t u : Table) (n : ℕ) → ((i : ℕ) → i < n → t ! i ≡ u ! i) → entriesBelow T t n ≡ entriesBelow T u n
+unfolding entriesBelow
+same-entries T t u zero h = refl
+same-entries T t u (suc n) h = rw (same-entries T t u n (λ i l. h i (omega arith)), h n (omega arith))
+
+-- the bytes of a table go by its bits of the tones
+pub same-table-bytes : (T : Tones) (t u : Table) → ((i : ℕ) → i < T .count → t ! i ≡ u ! i) → tableBytes T t ≡ tableBytes T u
+same-table-bytes T t u h = same-entries T t u (T .count) h
+
+-- a table written at a buffer's start, and what stays behind it
+pub table-written : (T : Tones) (t : Table) (out : List ℕ) → 9 * T .count ≤ length out → sets out 0 (tableBytes T t) ≡ tableBytes T t ++ drop (9 * T .count) out
+table-written T t out h =
+    let z : 0 + length (tableBytes T t) ≡ 9 * T .count = omega (arith, length-entries T t (T .count)) in
+    sets-eq (tableBytes T t) out 0 (omega arith) ∙ ap (λ (m : ℕ). tableBytes T t ++ drop m out) z

@@ -1,0 +1,27 @@
+-- `tables::put_tone` meets its contract. Assumes nothing.
+use mathlib.Core.Path.{_∙_}
+use native.Mathlib.Numerals.{add-one}
+use native.Mathlib.Omega.{arith}
+use lib.ListN.{length-set}
+use borrow.Author.Needs.{needs}
+use Rattle.tables.proofs.put_tone.Statement.{statement}
+use Rattle.tables.proofs.put_tone.Tie as tie
+
+slice-write-out : tie.Need-slice-write-out
+slice-write-out c = search needs
+
+add-put-number : tie.Need-add-put-number
+add-put-number c = search needs
+
+put-number-requires : tie.Need-put-number-requires
+put-number-requires c κs = simp length-set (omega arith)
+
+same-length : tie.Need-same-length
+same-length c = c .before .before .put-number .kept .0 ∙ simp length-set
+
+returns : tie.Need-returns
+returns c = rw (c .before .before .put-number .ensures, add-one)
+
+pub put-tone-spec : {M : Type 1} → statement M
+put-tone-spec =
+    tie.close (tie.spec slice-write-out add-put-number put-number-requires same-length returns)
