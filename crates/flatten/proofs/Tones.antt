@@ -16,7 +16,7 @@ use Rattle.line.specs.declared.Line.{Line}
 use Rattle.line.specs.Tone.{Gap, cost, doublings, limit}
 use Rattle.line.specs.Line.{blank, limitOf, tones, SlotInRange, stepsOfSlot, LineInRange}
 use Rattle.line.proofs.Ceiling.{cost-range}
-use Rattle.line.proofs.Growth.{step-is, doublings-high, shift-at-most}
+use Rattle.line.proofs.Growth.{step-is, step-positive, doublings-high, shift-at-most}
 use Rattle.line.proofs.Limits.{limit-is, cap-high}
 use Rattle.line.proofs.Loads.{line-step}
 use Rattle.flatten.specs.declared.Arrays.{Arrays}
@@ -24,13 +24,14 @@ use Rattle.flatten.specs.Arrays.{Holds, InRange, stepsAt}
 
 -- the ranges of what the runs need of one tone
 record Small (s : Steps) : Type 0 where
+  first-low : 0 < s .limit → 0 < s .first
   first-high : s .first < 2 ^ 26
   shift-high : s .doublings * s .limit ≤ 15
   limit-high : s .limit ≤ 15
 
 small : (g : ℕ) (s : Slot) (q : Bool) → Gap g → SlotInRange s → Small (stepsOfSlot g s q)
-small g s true G I = record { first-high = omega arith; shift-high = omega arith; limit-high = omega arith }
-small g Undescribed false G I = record { first-high = omega arith; shift-high = omega arith; limit-high = omega arith }
+small g s true G I = record { first-low = λ h. omega arith; first-high = omega arith; shift-high = omega arith; limit-high = omega arith }
+small g Undescribed false G I = record { first-low = λ h. omega arith; first-high = omega arith; shift-high = omega arith; limit-high = omega arith }
 small g (Described t) false G I =
     let w = cost g t in
     let d = doublings t in
@@ -40,6 +41,7 @@ small g (Described t) false G I =
     lt-of-lt-of-le (shl-lt 24 d (omega (arith, cost-range g t G I .high))) (pow-mono {i = 24 + d} {j = 26} (omega arith)) in
     let under = limit-is t w .at-most in
     record {
+      first-low = λ h. step-positive t w (cost-range g t G I .low);
       first-high = rw (step-is t w 0, none) (omega arith);
       shift-high = shift-at-most t d (limit t w) refl under I;
       limit-high = omega (arith, under, cap-high I);
@@ -62,6 +64,7 @@ module _ (l : Line) (ready : LineInRange l) (a : Arrays) (h : Holds l a) where
 
   pub arrays-in-range : InRange l a
   arrays-in-range = record {
+    first-low = λ i il. rw (h .limit-at i il, h .first-at i il) (small-at i il .first-low);
     first-high = λ i il. rw (h .first-at i il) (small-at i il .first-high);
     shift-high = λ i il. rw (h .doublings-at i il, h .limit-at i il) (small-at i il .shift-high);
     limit-high = λ i il. rw (h .limit-at i il) (small-at i il .limit-high);

@@ -20,8 +20,9 @@ pub record Holds (l : Line) (a : Arrays) : Type 0 where
   pub first-at : (i : ℕ) → i < l .size → getD (a .firsts) i 0 ≡ stepsAt l i .first
   pub doublings-at : (i : ℕ) → i < l .size → getD (a .doublings) i 0 ≡ stepsAt l i .doublings
 
--- The ranges of the arrays: every step below a limit is under 2^41.
+-- The ranges of the arrays: every step below a limit is above 0 and under 2^41.
 pub record InRange (l : Line) (a : Arrays) : Type 0 where
+  pub first-low : (i : ℕ) → i < l .size → 0 < getD (a .limits) i 0 → 0 < getD (a .firsts) i 0
   pub first-high : (i : ℕ) → i < l .size → getD (a .firsts) i 0 < 2 ^ 26
   pub shift-high : (i : ℕ) → i < l .size → getD (a .doublings) i 0 * getD (a .limits) i 0 ≤ 15
   pub limit-high : (i : ℕ) → i < l .size → getD (a .limits) i 0 ≤ 15

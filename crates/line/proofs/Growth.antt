@@ -80,6 +80,12 @@ pub step-rises : (t : Tone) (w b : ℕ) → 1 ≤ w → step t w b < step t w (s
 step-rises t w b l =
     rw (step-is t w b, step-is t w (suc b)) (steps-rise w (doublings t) b l (doublings-low (t .kind)))
 
+-- and the first is not 0
+pub step-positive : (t : Tone) (w : ℕ) → 1 ≤ w → 0 < step t w 0
+step-positive t w l =
+    let e : doublings t * 0 ≡ 0 = omega arith in
+    rw (step-is t w 0, e) (omega (arith, mul-le-mul-left w (pow-mono {i = 1} {j = doublings t} (doublings-low (t .kind)))))
+
 pub power-zero : (t : Tone) (w : ℕ) → power t w 0 ≡ 0
 power-zero t w = let e : doublings t * 0 ≡ 0 = omega arith in rw (power-is t w 0, e) (omega arith)
 

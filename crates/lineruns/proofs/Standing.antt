@@ -42,7 +42,7 @@ module _ (l : Line) (I : LineInRange l) (a : Arrays) (h : Holds l a) where
   runnable S = record {
     tones = tones l;
     table = S .table;
-    in-range = record { count-high = I .size-high; first-high = arrays-in-range l I a h .first-high; shift-high = arrays-in-range l I a h .shift-high };
+    in-range = record { count-high = I .size-high; first-low = arrays-in-range l I a h .first-low; first-high = arrays-in-range l I a h .first-high; shift-high = arrays-in-range l I a h .shift-high };
     stands = to-arrays (S .stands);
     bounded = λ u w. omega (arith, total-high l I u w);
   }

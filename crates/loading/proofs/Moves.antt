@@ -17,12 +17,12 @@ use Rattle.steps.proofs.Changes.{taking-within, total-taking, givingUp-within, 
 use Rattle.steps.proofs.Order.{before-place}
 use Rattle.search.specs.declared.Found.{Found}
 use Rattle.search.specs.declared.Found.the-variants.{Tone}
-use Rattle.search.specs.Flat.{stepIn, Describes, Under, found}
-use Rattle.search.proofs.Scans.{step-in-range}
+use Rattle.search.specs.Flat.{stepIn, Describes, Under, Sizes, found}
+use Rattle.search.proofs.Kept.{free-kept, held-kept}
 use Rattle.loading.specs.declared.Answer.the-variants.{Moved, Finished}
 use Rattle.loading.specs.declared.Running.{Running}
 use Rattle.loading.specs.declared.Stepped.{Stepped}
-use Rattle.loading.specs.Running.{StandsFor, Runnable, FreeAt, HeldAt, HandsBack, Measurable, Earlier, taken, givenUp}
+use Rattle.loading.specs.Running.{StandsFor, Runnable, FreeAt, HeldAt, HandsBack, Earlier, taken, givenUp}
 
 -- ---- one step of a running table
 
@@ -154,48 +154,41 @@ module _ {count : ℕ} {limits firsts doublings : List ℕ} {r : Running} (R : R
             D .same-step i 1 l (omega (arith, D .same-limit i l)),
           ))
 
--- a free step of tone i can be measured and taken
-pub record CanTake (firsts doublings : List ℕ) (r : Running) (i : ℕ) : Type 0 where
-  pub measurable : Measurable firsts doublings i (getD (r .bits) i 0)
+-- a free step of tone i, of this size, can be taken
+pub record CanTake (count : ℕ) (limits firsts doublings : List ℕ) (r : Running) (i size : ℕ) : Type 0 where
+  pub tone : i < count
+  pub inside : i < 256
+  pub free : getD (r .bits) i 0 < getD limits i 0
   pub below : getD (r .bits) i 0 < 255
-  pub bounded : r .power + stepIn firsts doublings i (getD (r .bits) i 0) < 2 ^ 62
+  pub sized : size ≡ stepIn firsts doublings i (getD (r .bits) i 0)
+  pub bounded : r .power + size < 2 ^ 62
 
--- a held step of tone i can be measured and given up
-pub record CanGiveUp (firsts doublings : List ℕ) (r : Running) (i : ℕ) : Type 0 where
-  pub measurable : Measurable firsts doublings i (getD (r .bits) i 0 - 1)
+-- a held step of tone i, of this size, can be given up
+pub record CanGiveUp (count : ℕ) (limits firsts doublings : List ℕ) (r : Running) (i size : ℕ) : Type 0 where
+  pub tone : i < count
+  pub inside : i < 256
   pub held : 0 < getD (r .bits) i 0
-  pub bounded : stepIn firsts doublings i (getD (r .bits) i 0 - 1) ≤ r .power
+  pub within : getD (r .bits) i 0 ≤ getD limits i 0
+  pub sized : size ≡ stepIn firsts doublings i (getD (r .bits) i 0 - 1)
+  pub bounded : size ≤ r .power
 
 module _ {count : ℕ} {limits firsts doublings : List ℕ} {r : Running} (R : Runnable count limits firsts doublings r) where
   S : StandsFor count limits firsts doublings r (R .tones) (R .table)
   S = R .stands
 
-  measured : (i b : ℕ) → i < count → b ≤ getD limits i 0 → Measurable firsts doublings i b
-  measured i b l h =
-      let m = step-in-range (R .in-range) i b l h in
-      record { inside = omega (arith, R .in-range .count-high); first-high = m .0; shift-high = m .1 }
+  free-below : {i : ℕ} → Free (R .tones) (R .table) i (R .table ! i) → getD (r .bits) i 0 < getD limits i 0
+  free-below F = omega (arith, F .below, bits-of S (F .tone), S .describes .same-limit _ (counted S (F .tone)))
 
-  can-take-free : {i : ℕ} → Free (R .tones) (R .table) i (R .table ! i) → CanTake firsts doublings r i
-  can-take-free {i} F =
+  can-take-free : {i size : ℕ} → Free (R .tones) (R .table) i (R .table ! i) → size ≡ stepIn firsts doublings i (getD (r .bits) i 0) → CanTake count limits firsts doublings r i size
+  can-take-free {i} F e =
       let l : i < count = counted S (F .tone) in
-      let b : getD (r .bits) i 0 < getD limits i 0 = omega (arith, F .below, bits-of S (F .tone), S .describes .same-limit i l) in
       record {
-        measurable = measured i (getD (r .bits) i 0) l (omega arith);
-        below = omega (arith, limit-small R i l);
-        bounded = omega (arith, R .bounded _ (taking-within (R .tones) (S .within) F), total-taking (R .tones) (S .rising) (S .within) F, free-size S F, S .power);
-      }
-
-  pub can-take : {f : Found} {i : ℕ} → FreeAt count limits firsts doublings r f → f ≡ Tone i → CanTake firsts doublings r i
-  can-take A e = can-take-free (free-found S A e .free)
-
-  pub can-give-up : {h : Found} {i : ℕ} → HeldAt count limits firsts doublings r h → h ≡ Tone i → CanGiveUp firsts doublings r i
-  can-give-up {h} {i} A e =
-      let L = held-found S A e in
-      let l : i < count = counted S (L .tone) in
-      record {
-        measurable = measured i (getD (r .bits) i 0 - 1) l (omega (arith, under R .under i l));
-        held = omega (arith, L .top, bits-of S (L .tone));
-        bounded = omega (arith, held-size S L, S .power, total-givingUp (R .tones) (S .rising) (S .within) (L .tone) (L .top));
+        tone = l;
+        inside = omega (arith, R .in-range .count-high);
+        free = free-below F;
+        below = omega (arith, free-below F, limit-small R i l);
+        sized = e;
+        bounded = omega (arith, e, R .bounded _ (taking-within (R .tones) (S .within) F), total-taking (R .tones) (S .rising) (S .within) F, free-size S F, S .power);
       }
 
   give-up-runnable : {h s : ℕ} → Latest (R .tones) (R .table) h (R .table ! h - 1) → s ≡ stepIn firsts doublings h (getD (r .bits) h 0 - 1) → h < length (r .bits)
@@ -208,10 +201,32 @@ module _ {count : ℕ} {limits firsts doublings : List ℕ} {r : Running} (R : R
     bounded = R .bounded;
   }
 
+  -- by the sizes that are kept
+  module _ {free held : List ℕ} (Z : Sizes count limits firsts doublings (r .bits) free held) where
+    pub can-take : {f : Found} {i : ℕ} → FreeAt count limits firsts doublings r f → f ≡ Tone i → CanTake count limits firsts doublings r i (getD free i 0)
+    can-take {f} {i} A e =
+        let F = free-found S A e .free in
+        can-take-free F (free-kept Z i (counted S (F .tone)) (free-below F))
+
+    pub can-give-up : {h : Found} {i : ℕ} → HeldAt count limits firsts doublings r h → h ≡ Tone i → CanGiveUp count limits firsts doublings r i (getD held i 0)
+    can-give-up {h} {i} A e =
+        let L = held-found S A e in
+        let l : i < count = counted S (L .tone) in
+        let b : 0 < getD (r .bits) i 0 = omega (arith, L .top, bits-of S (L .tone)) in
+        record {
+          tone = l;
+          inside = omega (arith, R .in-range .count-high);
+          held = b;
+          within = under R .under i l;
+          sized = held-kept Z i l b;
+          bounded = omega (arith, held-kept Z i l b, held-size S L, S .power, total-givingUp (R .tones) (S .rising) (S .within) (L .tone) (L .top));
+        }
+
 module _ {count : ℕ} {limits firsts doublings : List ℕ} {r : Running} (R : Runnable count limits firsts doublings r) where
+  -- after a later step is given up
   pub can-exchange : {f h up down : ℕ} {F H : Found} → FreeAt count limits firsts doublings r F → F ≡ Tone f → HeldAt count limits firsts doublings r H → H ≡ Tone h
       → up ≡ stepIn firsts doublings f (getD (r .bits) f 0) → down ≡ stepIn firsts doublings h (getD (r .bits) h 0 - 1) → Earlier up f down h
-      → h < length (r .bits) → (f < 256) × (getD (givenUp r h down .bits) f 0 < 255) × (givenUp r h down .power + up < 2 ^ 64)
+      → h < length (r .bits) → CanTake count limits firsts doublings (givenUp r h down) f up
   unfolding give-up-runnable
   can-exchange A ea H eh a b e l =
       let E = free-found (R .stands) A ea in
@@ -219,8 +234,7 @@ module _ {count : ℕ} {limits firsts doublings : List ℕ} {r : Running} (R : R
       let B = earlier-before (R .stands) E L a b e in
       let Q = give-up-runnable R L b l in
       let F = still-free (R .stands) E L a b B in
-      let k = can-take-free Q F in
-      (k .measurable .inside, k .below, omega (arith, k .bounded, free-size (Q .stands) F, still-sized (R .stands) E L a b B))
+      can-take-free Q F (sym (still-sized (R .stands) E L a b B) ∙ free-size (Q .stands) F)
 
 -- ---- what a step hands back
 

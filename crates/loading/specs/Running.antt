@@ -3,7 +3,7 @@
 use mathlib.Core.List.{List}
 use mathlib.Core.Logic.{_⊎_}
 use mathlib.Core.Path.{_≡_}
-use Prim.Native.Nat.{ℕ, suc, _+_, _-_, _*_, _^_, _≤_, _<_}
+use Prim.Native.Nat.{ℕ, suc, _+_, _-_, _^_, _<_}
 use lib.ListN.{getD, set}
 use Rattle.steps.specs.Tones as theory
 use Rattle.steps.specs.Runs as rule
@@ -20,12 +20,6 @@ taken r i s = record { bits = set (r .bits) i (suc (getD (r .bits) i 0)); power 
 
 abbrev pub givenUp : Running → (i s : ℕ) → Running
 givenUp r i s = record { bits = set (r .bits) i (getD (r .bits) i 0 - 1); power = r .power - s }
-
--- tone i is in the arrays, and they give its step at b bits a size
-pub record Measurable (firsts doublings : List ℕ) (i b : ℕ) : Type 0 where
-  pub inside : i < 256
-  pub first-high : getD firsts i 0 < 2 ^ 26
-  pub shift-high : getD doublings i 0 * b ≤ 15
 
 -- a step of tone i of the size x comes before one of tone j of the size y
 abbrev pub Earlier : (x i y j : ℕ) → Type 0

@@ -4,10 +4,9 @@ ghost use mathlib.Core.Path.{_≡_};
 ghost use Prim.Native.Nat.{_+_, _^_, _≤_, _<_};
 ghost use Rattle.search.specs.declared.Found.the-variants.{Tone};
 ghost use lib.ListN.{length, getD};
-ghost use Rattle.steps.specs.Tones.{Tones, Table};
 ghost use Rattle.steps.specs.Runs.{takeIfFits, giveUpOrTake, refitMove, addStep, refitStep};
-ghost use Rattle.search.specs.Flat.{stepIn, found};
-ghost use Rattle.loading.specs.Running.{StandsFor, Runnable, FreeAt, HeldAt, HandsBack, Follows, Measurable, Earlier, taken, givenUp};
+ghost use Rattle.search.specs.Flat.{InRange, Sizes, found};
+ghost use Rattle.loading.specs.Running.{StandsFor, Runnable, FreeAt, HeldAt, HandsBack, Follows, Earlier, taken, givenUp};
 ghost use Rattle.loading.specs.declared.Answer.the-variants.{Moved, Finished};
 use search::Found;
 
@@ -27,14 +26,6 @@ pub enum Answer {
 pub struct Stepped {
     pub running: Running,
     pub answer: Answer,
-}
-
-// The size of a tone's step at these bits.
-fn size_at(tone: usize, bits: u8, firsts: &[u64; 256], doublings: &[u8; 256]) -> u64
-    requires { ⌜ Measurable (now firsts) (now doublings) tone bits ⌝ }
-    ensures { λ r. ⌜ r ≡ stepIn (now (firsts .entry)) (now (doublings .entry)) tone bits ⌝ }
-{
-    search::step_size(firsts[tone], doublings[tone], bits)
 }
 
 // Whether a step of one tone comes before one of another: by size, then by lower tone number.
@@ -68,98 +59,181 @@ impl Running {
         }
     }
 
-    // Takes a step of a tone, of this size.
-    fn take(mut self, tone: usize, step: u64) -> Running
-        requires { ⌜ (tone < 256) × (getD (self .bits) tone 0 < 255) × (self .power + step < 2 ^ 64) ⌝ }
-        ensures { λ r. ⌜ (r ≡ taken self tone step) × (length (self .bits) ≡ 256) ⌝ }
+    // Takes a step of a tone, of this size, and keeps the sizes of its steps.
+    fn take(
+        mut self,
+        tone: usize,
+        step: u64,
+        count: usize,
+        limits: &[u8; 256],
+        firsts: &[u64; 256],
+        doublings: &[u8; 256],
+        free: &mut [u64; 256],
+        held: &mut [u64; 256],
+    ) -> Running
+        requires { ⌜ InRange count (now limits) (now firsts) (now doublings) × Sizes count (now limits) (now firsts) (now doublings) (self .bits) (now free) (now held) × (tone < count) × (getD (self .bits) tone 0 < getD (now limits) tone 0) × (getD (self .bits) tone 0 < 255) × (self .power + step < 2 ^ 64) ⌝ }
+        ensures moved { λ r. ⌜ (r ≡ taken self tone step) × (length (self .bits) ≡ 256) ⌝ }
+        ensures sizes { λ r. ⌜ Sizes count (now (limits .entry)) (now (firsts .entry)) (now (doublings .entry)) (r .bits) (now (free .exit)) (now (held .exit)) ⌝ }
     {
-        let has = self.bits[tone];
-        self.bits[tone] = has + 1;
+        let bits = self.bits[tone] + 1;
+        self.bits[tone] = bits;
         self.power += step;
+        // As slices: a slice's length is known to the proof.
+        let frees: &mut [u64] = free;
+        let helds: &mut [u64] = held;
+        frees[tone] = search::free_size(limits[tone], firsts[tone], doublings[tone], bits);
+        helds[tone] = search::held_size(firsts[tone], doublings[tone], bits);
         self
     }
 
-    // Gives up a step of a tone, of this size.
-    fn give_up(mut self, tone: usize, step: u64) -> Running
-        requires { ⌜ (tone < 256) × (0 < getD (self .bits) tone 0) × (step ≤ self .power) ⌝ }
-        ensures { λ r. ⌜ (r ≡ givenUp self tone step) × (length (self .bits) ≡ 256) ⌝ }
+    // Gives up a step of a tone, of this size, and keeps the sizes of its steps.
+    fn give_up(
+        mut self,
+        tone: usize,
+        step: u64,
+        count: usize,
+        limits: &[u8; 256],
+        firsts: &[u64; 256],
+        doublings: &[u8; 256],
+        free: &mut [u64; 256],
+        held: &mut [u64; 256],
+    ) -> Running
+        requires { ⌜ InRange count (now limits) (now firsts) (now doublings) × Sizes count (now limits) (now firsts) (now doublings) (self .bits) (now free) (now held) × (tone < count) × (0 < getD (self .bits) tone 0) × (getD (self .bits) tone 0 ≤ getD (now limits) tone 0) × (step ≤ self .power) ⌝ }
+        ensures moved { λ r. ⌜ (r ≡ givenUp self tone step) × (length (self .bits) ≡ 256) ⌝ }
+        ensures sizes { λ r. ⌜ Sizes count (now (limits .entry)) (now (firsts .entry)) (now (doublings .entry)) (r .bits) (now (free .exit)) (now (held .exit)) ⌝ }
     {
-        let has = self.bits[tone];
-        self.bits[tone] = has - 1;
+        let left = self.bits[tone] - 1;
+        self.bits[tone] = left;
         self.power -= step;
+        // As slices: a slice's length is known to the proof.
+        let frees: &mut [u64] = free;
+        let helds: &mut [u64] = held;
+        frees[tone] = search::free_size(limits[tone], firsts[tone], doublings[tone], left);
+        helds[tone] = search::held_size(firsts[tone], doublings[tone], left);
         self
     }
 
     // Takes the free step that was found if it fits the budget.
     fn take_if_fits(
         self,
-        free: Found,
+        earliest: Found,
         budget: u64,
         count: usize,
         limits: &[u8; 256],
         firsts: &[u64; 256],
         doublings: &[u8; 256],
+        free: &mut [u64; 256],
+        held: &mut [u64; 256],
     ) -> Stepped
-        requires { ⌜ Runnable count (now limits) (now firsts) (now doublings) self × FreeAt count (now limits) (now firsts) (now doublings) self free ⌝ }
-        ensures { λ r. ⌜ Follows count (now (limits .entry)) (now (firsts .entry)) (now (doublings .entry)) self r (λ T t. takeIfFits T budget t (found free)) ⌝ }
+        requires { ⌜ Runnable count (now limits) (now firsts) (now doublings) self × Sizes count (now limits) (now firsts) (now doublings) (self .bits) (now free) (now held) × FreeAt count (now limits) (now firsts) (now doublings) self earliest ⌝ }
+        ensures steps { λ r. ⌜ Follows count (now (limits .entry)) (now (firsts .entry)) (now (doublings .entry)) self r (λ T t. takeIfFits T budget t (found earliest)) ⌝ }
+        ensures sizes { λ r. ⌜ Sizes count (now (limits .entry)) (now (firsts .entry)) (now (doublings .entry)) (r .running .bits) (now (free .exit)) (now (held .exit)) ⌝ }
     {
-        let Found::Tone(tone) = free else {
+        let Found::Tone(tone) = earliest else {
             return self.finished();
         };
-        let step = size_at(tone, self.bits[tone], firsts, doublings);
+        let step = free[tone];
         if budget < self.power + step {
             return self.finished();
         }
-        self.take(tone, step).moved()
+        self.take(tone, step, count, limits, firsts, doublings, free, held)
+            .moved()
     }
 
     // Above the budget gives up the held step that was found; otherwise takes the free one if it fits.
     fn give_up_or_take(
         self,
-        held: usize,
-        free: Found,
+        latest: usize,
+        earliest: Found,
         budget: u64,
         count: usize,
         limits: &[u8; 256],
         firsts: &[u64; 256],
         doublings: &[u8; 256],
+        free: &mut [u64; 256],
+        held: &mut [u64; 256],
     ) -> Stepped
-        requires { ⌜ Runnable count (now limits) (now firsts) (now doublings) self × HeldAt count (now limits) (now firsts) (now doublings) self (Tone held) × FreeAt count (now limits) (now firsts) (now doublings) self free ⌝ }
-        ensures { λ r. ⌜ Follows count (now (limits .entry)) (now (firsts .entry)) (now (doublings .entry)) self r (λ T t. giveUpOrTake T budget t held (found free)) ⌝ }
+        requires { ⌜ Runnable count (now limits) (now firsts) (now doublings) self × Sizes count (now limits) (now firsts) (now doublings) (self .bits) (now free) (now held) × HeldAt count (now limits) (now firsts) (now doublings) self (Tone latest) × FreeAt count (now limits) (now firsts) (now doublings) self earliest ⌝ }
+        ensures steps { λ r. ⌜ Follows count (now (limits .entry)) (now (firsts .entry)) (now (doublings .entry)) self r (λ T t. giveUpOrTake T budget t latest (found earliest)) ⌝ }
+        ensures sizes { λ r. ⌜ Sizes count (now (limits .entry)) (now (firsts .entry)) (now (doublings .entry)) (r .running .bits) (now (free .exit)) (now (held .exit)) ⌝ }
     {
         if budget < self.power {
-            let step = size_at(held, self.bits[held] - 1, firsts, doublings);
-            return self.give_up(held, step).moved();
+            let step = held[latest];
+            return self.give_up(latest, step, count, limits, firsts, doublings, free, held)
+                .moved();
         }
-        self.take_if_fits(free, budget, count, limits, firsts, doublings)
+        self.take_if_fits(
+            earliest,
+            budget,
+            count,
+            limits,
+            firsts,
+            doublings,
+            free,
+            held,
+        )
     }
 
     // Exchanges the held step that was found for the free one if that comes before it; otherwise as above.
     fn refit_move(
         self,
-        held: Found,
-        free: Found,
+        latest: Found,
+        earliest: Found,
         budget: u64,
         count: usize,
         limits: &[u8; 256],
         firsts: &[u64; 256],
         doublings: &[u8; 256],
+        free: &mut [u64; 256],
+        held: &mut [u64; 256],
     ) -> Stepped
-        requires { ⌜ Runnable count (now limits) (now firsts) (now doublings) self × HeldAt count (now limits) (now firsts) (now doublings) self held × FreeAt count (now limits) (now firsts) (now doublings) self free ⌝ }
-        ensures { λ r. ⌜ Follows count (now (limits .entry)) (now (firsts .entry)) (now (doublings .entry)) self r (λ T t. refitMove T budget t (found held) (found free)) ⌝ }
+        requires { ⌜ Runnable count (now limits) (now firsts) (now doublings) self × Sizes count (now limits) (now firsts) (now doublings) (self .bits) (now free) (now held) × HeldAt count (now limits) (now firsts) (now doublings) self latest × FreeAt count (now limits) (now firsts) (now doublings) self earliest ⌝ }
+        ensures steps { λ r. ⌜ Follows count (now (limits .entry)) (now (firsts .entry)) (now (doublings .entry)) self r (λ T t. refitMove T budget t (found latest) (found earliest)) ⌝ }
+        ensures sizes { λ r. ⌜ Sizes count (now (limits .entry)) (now (firsts .entry)) (now (doublings .entry)) (r .running .bits) (now (free .exit)) (now (held .exit)) ⌝ }
     {
-        let Found::Tone(h) = held else {
-            return self.take_if_fits(free, budget, count, limits, firsts, doublings);
+        let Found::Tone(h) = latest else {
+            return self.take_if_fits(
+                earliest,
+                budget,
+                count,
+                limits,
+                firsts,
+                doublings,
+                free,
+                held,
+            );
         };
-        let Found::Tone(f) = free else {
-            return self.give_up_or_take(h, free, budget, count, limits, firsts, doublings);
+        let Found::Tone(f) = earliest else {
+            return self.give_up_or_take(
+                h,
+                earliest,
+                budget,
+                count,
+                limits,
+                firsts,
+                doublings,
+                free,
+                held,
+            );
         };
-        let down = size_at(h, self.bits[h] - 1, firsts, doublings);
-        let up = size_at(f, self.bits[f], firsts, doublings);
+        let down = held[h];
+        let up = free[f];
         if comes_before(up, f, down, h) {
-            return self.give_up(h, down).take(f, up).moved();
+            let less = self.give_up(h, down, count, limits, firsts, doublings, free, held);
+            return less.take(f, up, count, limits, firsts, doublings, free, held)
+                .moved();
         }
-        self.give_up_or_take(h, free, budget, count, limits, firsts, doublings)
+        self.give_up_or_take(
+            h,
+            earliest,
+            budget,
+            count,
+            limits,
+            firsts,
+            doublings,
+            free,
+            held,
+        )
     }
 
     // One step of adding: takes the earliest free step if it fits the budget.
@@ -170,13 +244,24 @@ impl Running {
         limits: &[u8; 256],
         firsts: &[u64; 256],
         doublings: &[u8; 256],
+        free: &mut [u64; 256],
+        held: &mut [u64; 256],
     ) -> Stepped
-        requires { ⌜ Runnable count (now limits) (now firsts) (now doublings) self ⌝ }
-        ensures { λ r. ⌜ ((T : Tones) (t : Table) → StandsFor count (now (limits .entry)) (now (firsts .entry)) (now (doublings .entry)) self T t → HandsBack count (now (limits .entry)) (now (firsts .entry)) (now (doublings .entry)) self r T (addStep T budget t)) ⌝ }
+        requires { ⌜ Runnable count (now limits) (now firsts) (now doublings) self × Sizes count (now limits) (now firsts) (now doublings) (self .bits) (now free) (now held) ⌝ }
+        ensures steps { λ r. ⌜ Follows count (now (limits .entry)) (now (firsts .entry)) (now (doublings .entry)) self r (λ T. addStep T budget) ⌝ }
+        ensures sizes { λ r. ⌜ Sizes count (now (limits .entry)) (now (firsts .entry)) (now (doublings .entry)) (r .running .bits) (now (free .exit)) (now (held .exit)) ⌝ }
     {
-        let bits = self.bits;
-        let free = search::earliest_free(count, limits, firsts, doublings, &bits);
-        self.take_if_fits(free, budget, count, limits, firsts, doublings)
+        let earliest = search::earliest_free(count, free);
+        self.take_if_fits(
+            earliest,
+            budget,
+            count,
+            limits,
+            firsts,
+            doublings,
+            free,
+            held,
+        )
     }
 
     // One step of re-fitting: an exchange, a step given up, a step taken, or finished.
@@ -187,13 +272,25 @@ impl Running {
         limits: &[u8; 256],
         firsts: &[u64; 256],
         doublings: &[u8; 256],
+        free: &mut [u64; 256],
+        held: &mut [u64; 256],
     ) -> Stepped
-        requires { ⌜ Runnable count (now limits) (now firsts) (now doublings) self ⌝ }
-        ensures { λ r. ⌜ ((T : Tones) (t : Table) → StandsFor count (now (limits .entry)) (now (firsts .entry)) (now (doublings .entry)) self T t → HandsBack count (now (limits .entry)) (now (firsts .entry)) (now (doublings .entry)) self r T (refitStep T budget t)) ⌝ }
+        requires { ⌜ Runnable count (now limits) (now firsts) (now doublings) self × Sizes count (now limits) (now firsts) (now doublings) (self .bits) (now free) (now held) ⌝ }
+        ensures steps { λ r. ⌜ Follows count (now (limits .entry)) (now (firsts .entry)) (now (doublings .entry)) self r (λ T. refitStep T budget) ⌝ }
+        ensures sizes { λ r. ⌜ Sizes count (now (limits .entry)) (now (firsts .entry)) (now (doublings .entry)) (r .running .bits) (now (free .exit)) (now (held .exit)) ⌝ }
     {
-        let bits = self.bits;
-        let held = search::latest_held(count, limits, firsts, doublings, &bits);
-        let free = search::earliest_free(count, limits, firsts, doublings, &bits);
-        self.refit_move(held, free, budget, count, limits, firsts, doublings)
+        let latest = search::latest_held(count, held);
+        let earliest = search::earliest_free(count, free);
+        self.refit_move(
+            latest,
+            earliest,
+            budget,
+            count,
+            limits,
+            firsts,
+            doublings,
+            free,
+            held,
+        )
     }
 }

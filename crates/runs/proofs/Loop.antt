@@ -8,6 +8,7 @@ use native.Mathlib.Omega.{arith}
 use Rattle.steps.specs.Tones.{Tones, Table}
 use Rattle.steps.specs.Runs as theory
 use Rattle.steps.proofs.Run.{run-moved, run-finished}
+use Rattle.search.specs.Flat.{Sizes}
 use Rattle.loading.specs.declared.Answer.the-variants.{Moved, Finished}
 use Rattle.loading.specs.declared.Running.{Running}
 use Rattle.loading.specs.declared.Stepped.{Stepped}
@@ -23,8 +24,9 @@ module _ (count : ℕ) (limits firsts doublings : List ℕ) where
     pub table : whole .table ≡ theory.run rule (most - m) at .table
     pub moves : whole .moves ≡ m + theory.run rule (most - m) at .moves
 
-  -- what holds after m moves
-  pub record Along (rule : Rule) (most budget : ℕ) (start now : Running) (m : ℕ) : Type 0 where
+  -- what holds after m moves, with the sizes kept in the arrays
+  pub record Along (rule : Rule) (most budget : ℕ) (start now : Running) (m : ℕ) (free held : List ℕ) : Type 0 where
+    pub sizes : Sizes count limits firsts doublings (now .bits) free held
     pub runnable : Runnable count limits firsts doublings now
     pub rest : (T : Tones) (t : Table) → StandsFor count limits firsts doublings start T t
         → Rest (ruleOf rule T budget) most (theory.run (ruleOf rule T budget) most t) now m T
@@ -43,14 +45,15 @@ module _ (count : ℕ) (limits firsts doublings : List ℕ) where
     answers : rule t ≡ theory.moved to
     stands : StandsFor count limits firsts doublings (s .running) T to
 
-pub along-starts : {count : ℕ} {limits firsts doublings : List ℕ} {rule : Rule} {most budget : ℕ} {start : Running} → Runnable count limits firsts doublings start
-    → Along count limits firsts doublings rule most budget start start 0
-along-starts {most = most} R = record {
+pub along-starts : {count : ℕ} {limits firsts doublings free held : List ℕ} {rule : Rule} {most budget : ℕ} {start : Running} → Runnable count limits firsts doublings start
+    → Sizes count limits firsts doublings (start .bits) free held → Along count limits firsts doublings rule most budget start start 0 free held
+along-starts {most = most} R Z = record {
+  sizes = Z;
   runnable = R;
   rest = λ T t S. record { at = t; stands = S; table = rw (sub-zero most); moves = rw (sub-zero most) (omega arith) };
 }
 
-module _ {count : ℕ} {limits firsts doublings : List ℕ} {rule : Rule} {most budget : ℕ} {start now : Running} {m : ℕ} (A : Along count limits firsts doublings rule most budget start now m) where
+module _ {count : ℕ} {limits firsts doublings free held : List ℕ} {rule : Rule} {most budget : ℕ} {start now : Running} {m : ℕ} (A : Along count limits firsts doublings rule most budget start now m free held) where
   -- as many moves are made as the run may make
   pub along-full : most ≤ m → (T : Tones) (t : Table) → StandsFor count limits firsts doublings start T t
       → EndsAs count limits firsts doublings (record { running = now; moves = m }) T (theory.run (ruleOf rule T budget) most t)
@@ -76,8 +79,10 @@ module _ {count : ℕ} {limits firsts doublings : List ℕ} {rule : Rule} {most 
         go (theory.moved u) q x = absurd (let z : _≡_ {A = ℕ} 0 1 = cc in omega arith)
         go theory.finished q x = (q, x .1)
 
-    pub along-moved : s .answer ≡ Moved → m < most → Along count limits firsts doublings rule most budget start (s .running) (m + 1)
-    along-moved e l = record {
+    pub along-moved : {after next : List ℕ} → Sizes count limits firsts doublings (s .running .bits) after next → s .answer ≡ Moved → m < most
+        → Along count limits firsts doublings rule most budget start (s .running) (m + 1) after next
+    along-moved Z e l = record {
+      sizes = Z;
       runnable =
           let R = A .runnable in
           let n = moves-on e (R .stands) in

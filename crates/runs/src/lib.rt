@@ -2,7 +2,8 @@
 ghost use mathlib.Core.Path.{_≡_};
 ghost use Rattle.steps.specs.Tones.{Tones, Table};
 ghost use Rattle.steps.specs.Runs.{run};
-ghost use Rattle.loading.specs.Running.{StandsFor, Runnable, HandsBack};
+ghost use Rattle.search.specs.Flat.{Sizes};
+ghost use Rattle.loading.specs.Running.{StandsFor, Runnable, Follows};
 ghost use Rattle.runs.specs.Runs.{ruleOf, EndsAs};
 use loading::Answer;
 use loading::Running;
@@ -29,13 +30,16 @@ fn step(
     limits: &[u8; 256],
     firsts: &[u64; 256],
     doublings: &[u8; 256],
+    free: &mut [u64; 256],
+    held: &mut [u64; 256],
 ) -> Stepped
-    requires { ⌜ Runnable count (now limits) (now firsts) (now doublings) running ⌝ }
-    ensures { λ r. ⌜ ((T : Tones) (t : Table) → StandsFor count (now (limits .entry)) (now (firsts .entry)) (now (doublings .entry)) running T t → HandsBack count (now (limits .entry)) (now (firsts .entry)) (now (doublings .entry)) running r T (ruleOf rule T budget t)) ⌝ }
+    requires { ⌜ Runnable count (now limits) (now firsts) (now doublings) running × Sizes count (now limits) (now firsts) (now doublings) (running .bits) (now free) (now held) ⌝ }
+    ensures steps { λ r. ⌜ Follows count (now (limits .entry)) (now (firsts .entry)) (now (doublings .entry)) running r (λ T. ruleOf rule T budget) ⌝ }
+    ensures sizes { λ r. ⌜ Sizes count (now (limits .entry)) (now (firsts .entry)) (now (doublings .entry)) (r .running .bits) (now (free .exit)) (now (held .exit)) ⌝ }
 {
     match rule {
-        Rule::Add => running.add_step(budget, count, limits, firsts, doublings),
-        Rule::Refit => running.refit_step(budget, count, limits, firsts, doublings),
+        Rule::Add => running.add_step(budget, count, limits, firsts, doublings, free, held),
+        Rule::Refit => running.refit_step(budget, count, limits, firsts, doublings, free, held),
     }
 }
 
@@ -53,10 +57,32 @@ pub fn run(
     requires { ⌜ Runnable count (now limits) (now firsts) (now doublings) running ⌝ }
     ensures { λ r. ⌜ ((T : Tones) (t : Table) → StandsFor count (now (limits .entry)) (now (firsts .entry)) (now (doublings .entry)) running T t → EndsAs count (now (limits .entry)) (now (firsts .entry)) (now (doublings .entry)) r T (run (ruleOf rule T budget) most t)) ⌝ }
 {
+    let bits = running.bits;
+    let mut free: [u64; 256] = [0; 256];
+    let mut held: [u64; 256] = [0; 256];
+    search::fill_sizes(
+        count,
+        limits,
+        firsts,
+        doublings,
+        &bits,
+        &mut free,
+        &mut held,
+    );
     let mut table = running;
     let mut moves: u32 = 0;
     while moves < most {
-        let stepped = step(table, rule, budget, count, limits, firsts, doublings);
+        let stepped = step(
+            table,
+            rule,
+            budget,
+            count,
+            limits,
+            firsts,
+            doublings,
+            &mut free,
+            &mut held,
+        );
         table = stepped.running;
         let answer = stepped.answer;
         match answer {

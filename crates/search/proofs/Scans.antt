@@ -1,75 +1,29 @@
--- The searches by the arrays alone: what a loop over the tones knows between its turns, and that they find what those of crate steps find.
+-- The searches by the kept sizes alone: what a loop over the tones knows between its turns, and that they find what those of crate steps find.
 -- Assumes nothing.
 use mathlib.Core.Path.{_≡_, refl, sym, ap, _∙_}
-use mathlib.Core.Bool.{Bool, true, false, true≢false}
 use mathlib.Core.List.{List}
-use mathlib.Core.Logic.{_⊎_, inl, inr, ite, if-pos, if-neg}
+use mathlib.Core.Logic.{_≢_, ite, if-pos, if-neg}
 use mathlib.Core.Option.{Option, none, some}
-use Prim.Native.Nat.{ℕ, zero, suc, _-_, _*_, _^_, _≤_, _<_}
-use native.Mathlib.Nat.{mul-le-mul-left}
-use native.Mathlib.Decide.{decLe, decLt}
+use Prim.Native.Nat.{ℕ, zero, suc, _+_, _-_, _*_, _^_, _≤_, _<_}
+use native.Mathlib.Nat.{le-trans, lt-of-lt-of-le, mul-pos, mul-le-mul-left}
+use native.Mathlib.Decide.{decLt}
 use native.Mathlib.Omega.{arith}
+use borrow.Author.Count.{below-more}
 use lib.ListN.{getD}
+use lib.Pow.{pow-pos, pow-mono, shl-lt}
 use Rattle.steps.specs.Tones.{Tones, step, Before, by-size, by-tone, Table, _!_}
 use Rattle.steps.specs.Runs.{against, choice, earliestFree, latestHeld}
-use Rattle.search.specs.Flat.{stepIn, InRange, Under, Describes}
+use Rattle.search.specs.Flat.{InRange, Under, Describes, noStep, Sizes}
+use Rattle.search.proofs.Kept.{free-kept, held-kept, none-free, none-held}
 
--- ---- one turn after the other
-
--- the best tone so far, if any
-abbrev pub best : (any : Bool) → (tone : ℕ) → Option ℕ
-best false tone = none
-best true tone = some tone
-
-module _ {has : ℕ → Type 0} {beats : ℕ → ℕ → Type 0} (has? : (i : ℕ) → Dec (has i)) (beats? : (i j : ℕ) → Dec (beats i j)) (sizeOf : ℕ → ℕ) where
-  -- of the first i tones the best is `tone`, and its step has the size `size`
-  pub record Scan (i : ℕ) (any : Bool) (tone size : ℕ) : Type 0 where
-    pub chosen : choice has? beats? i ≡ best any tone
-    pub sized : any ≡ true → size ≡ sizeOf tone
-
-module _ {has : ℕ → Type 0} {beats : ℕ → ℕ → Type 0} {has? : (i : ℕ) → Dec (has i)} {beats? : (i j : ℕ) → Dec (beats i j)} {sizeOf : ℕ → ℕ} where
-  pub scan-start : {tone size : ℕ} → Scan has? beats? sizeOf 0 false tone size
-  unfolding choice
-  scan-start = record { chosen = refl; sized = λ e. absurd (true≢false (sym e)) }
-
-  module _ {i : ℕ} {any : Bool} {tone size : ℕ} (S : Scan has? beats? sizeOf i any tone size) where
-    pub scan-skip : ¬ has i → Scan has? beats? sizeOf (suc i) any tone size
-    unfolding choice
-    scan-skip m = record { chosen = if-neg (has? i) m _ _ ∙ S .chosen; sized = S .sized }
-
-    weighed : has i → choice has? beats? (suc i) ≡ against has? beats? i (best any tone)
-    unfolding choice
-    weighed h = if-pos (has? i) h _ _ ∙ ap (against has? beats? i) (S .chosen)
-
-    pub scan-take : has i → (any ≡ false) ⊎ beats i tone → Scan has? beats? sizeOf (suc i) true i (sizeOf i)
-    unfolding against
-    scan-take h wins = record { chosen = weighed h ∙ won any wins; sized = λ e. refl }
-      where
-        won : (any : Bool) → (any ≡ false) ⊎ beats i tone → against has? beats? i (best any tone) ≡ some i
-        won false w = refl
-        won true (inl e) = absurd (true≢false e)
-        won true (inr b) = if-pos (beats? i tone) b _ _
-
-    pub scan-keep : has i → any ≡ true → ¬ beats i tone → Scan has? beats? sizeOf (suc i) any tone size
-    unfolding against
-    scan-keep h e loses = record { chosen = weighed h ∙ rw e (if-neg (beats? i tone) loses _ _); sized = S .sized }
-
--- ---- two searches that agree on the first `count` tones
-
-pub record Agree (count : ℕ) (has has' : ℕ → Type 0) (beats beats' : ℕ → ℕ → Type 0) : Type 0 where
-  pub has-to : (i : ℕ) → i < count → has i → has' i
-  pub has-from : (i : ℕ) → i < count → has' i → has i
-  -- of two tones that have a step, the later against the earlier
-  pub beats-to : (i j : ℕ) → j < i → i < count → has i → has j → beats i j → beats' i j
-  pub beats-from : (i j : ℕ) → j < i → i < count → has i → has j → beats' i j → beats i j
+-- ---- what is chosen
 
 -- what is chosen of the first n tones is one of them, and has a step
 abbrev Inside : (has : ℕ → Type 0) → ℕ → Option ℕ → Type 0
 Inside has n none = Unit {0}
 Inside has n (some i) = (i < n) × has i
 
-module _ {has has' : ℕ → Type 0} {beats beats' : ℕ → ℕ → Type 0}
-    (has? : (i : ℕ) → Dec (has i)) (beats? : (i j : ℕ) → Dec (beats i j)) (has'? : (i : ℕ) → Dec (has' i)) (beats'? : (i j : ℕ) → Dec (beats' i j)) where
+module _ {has : ℕ → Type 0} {beats : ℕ → ℕ → Type 0} (has? : (i : ℕ) → Dec (has i)) (beats? : (i j : ℕ) → Dec (beats i j)) where
   choice-inside : (n : ℕ) → Inside has n (choice has? beats? n)
   unfolding against choice
   choice-inside zero = tt
@@ -85,29 +39,34 @@ module _ {has has' : ℕ → Type 0} {beats beats' : ℕ → ℕ → Type 0}
       on (yes h) none w = (omega arith, h)
       on (yes h) (some i) w = weigh i (beats? n i) h w
 
-  module _ (count : ℕ) (A : Agree count has has' beats beats') where
-    same-against : (n : ℕ) → n < count → has n → (o : Option ℕ) → Inside has n o → against has? beats? n o ≡ against has'? beats'? n o
-    unfolding against
-    same-against n l h none w = refl
-    same-against n l h (some i) w = go (beats? n i)
+  -- no tone has a step
+  choice-none : (n : ℕ) → ((j : ℕ) → j < n → ¬ has j) → choice has? beats? n ≡ none
+  unfolding choice
+  choice-none zero m = refl
+  choice-none (suc n) m = if-neg (has? n) (m n (omega arith)) _ _ ∙ choice-none n (λ j l. m j (omega arith))
+
+  -- a tone that beats all those before it, and that none after it beats
+  module _ (tone : ℕ) (h : has tone) (wins : (j : ℕ) → j < tone → has j → beats tone j) where
+    choice-at : choice has? beats? (suc tone) ≡ some tone
+    unfolding against choice
+    choice-at = if-pos (has? tone) h _ _ ∙ on (choice has? beats? tone) (choice-inside tone)
       where
-        go : (d : Dec (beats n i)) → ite d (some n) (some i) ≡ ite (beats'? n i) (some n) (some i)
-        go (yes b) = sym (if-pos (beats'? n i) (A .beats-to n i (w .0) l h (w .1) b) _ _)
-        go (no m) = sym (if-neg (beats'? n i) (λ b. m (A .beats-from n i (w .0) l h (w .1) b)) _ _)
+        on : (o : Option ℕ) → Inside has tone o → against has? beats? tone o ≡ some tone
+        on none w = refl
+        on (some j) w = if-pos (beats? tone j) (wins j (w .0) (w .1)) _ _
 
-    pub same-choice : (n : ℕ) → n ≤ count → choice has? beats? n ≡ choice has'? beats'? n
-    unfolding choice
-    same-choice zero l = refl
-    same-choice (suc n) l = rw (← same-choice n (omega arith)) (go (has? n))
+    choice-some : (n : ℕ) → tone < n → ((j : ℕ) → tone < j → j < n → has j → ¬ beats j tone) → choice has? beats? n ≡ some tone
+    unfolding against choice
+    choice-some zero l loses = absurd (omega arith)
+    choice-some (suc n) l loses = go (λ q. choice-some n q (λ j a b. loses j a (omega arith))) (decLt tone n)
       where
-        o : Option ℕ
-        o = choice has? beats? n
+        kept : tone < n → choice has? beats? n ≡ some tone → (d : Dec (has n)) → ite d (against has? beats? n (choice has? beats? n)) (choice has? beats? n) ≡ some tone
+        kept q e (yes has-n) = ap (against has? beats? n) e ∙ if-neg (beats? n tone) (loses n q (omega arith) has-n) _ _
+        kept q e (no m) = e
 
-        go : (d : Dec (has n)) → ite d (against has? beats? n o) o ≡ ite (has'? n) (against has'? beats'? n o) o
-        go (yes h) = same-against n (omega arith) h o (choice-inside n) ∙ sym (if-pos (has'? n) (A .has-to n (omega arith) h) _ _)
-        go (no m) = sym (if-neg (has'? n) (λ h. m (A .has-from n (omega arith) h)) _ _)
-
--- ---- the two searches by the arrays
+        go : (tone < n → choice has? beats? n ≡ some tone) → Dec (tone < n) → choice has? beats? (suc n) ≡ some tone
+        go before (yes q) = kept q (before q) (has? n)
+        go before (no q) = let e : n ≡ tone = omega arith in rw e choice-at
 
 -- Of two steps, that of the later tone comes before the other exactly if it is smaller, and after it exactly if it is not.
 module _ (T : Tones) {i b j c x y : ℕ} (ex : step T i b ≡ x) (ey : step T j c ≡ y) (l : j < i) where
@@ -129,62 +88,137 @@ module _ (T : Tones) {i b j c x y : ℕ} (ex : step T i b ≡ x) (ey : step T j 
   after-larger (by-size h) = omega arith
   after-larger (by-tone e h) = omega arith
 
--- the sizes of a tone's earliest free step and of its latest held one
-abbrev pub freeSize : (firsts doublings bits : List ℕ) → ℕ → ℕ
-freeSize firsts doublings bits i = stepIn firsts doublings i (getD bits i 0)
+-- ---- the two scans
 
-abbrev pub heldSize : (firsts doublings bits : List ℕ) → ℕ → ℕ
-heldSize firsts doublings bits i = stepIn firsts doublings i (getD bits i 0 - 1)
+-- Of the first i sizes the least is `size`, first at `tone`; before any is below it, `size` is the largest number.
+pub record Least (free : List ℕ) (size tone i : ℕ) : Type 0 where
+  pub low : (j : ℕ) → j < i → size ≤ getD free j 0
+  pub first : (j : ℕ) → j < tone → size < getD free j 0
+  pub at : size ≢ noStep → (tone < i) × (size ≡ getD free tone 0)
 
--- after the first i tones, looking for the earliest free step: of equal ones the first stays
-abbrev pub EarliestScan : (limits firsts doublings bits : List ℕ) → ℕ → Bool → ℕ → ℕ → Type 0
-EarliestScan limits firsts doublings bits =
-    let size = freeSize firsts doublings bits in
-    Scan (λ i. decLt (getD bits i 0) (getD limits i 0)) (λ i j. decLt (size i) (size j)) size
+pub least-start : {free : List ℕ} → Least free noStep 0 0
+least-start = record { low = λ j l. omega arith; first = λ j l. omega arith; at = λ m. absurd (m refl) }
 
--- after the first i tones, looking for the latest held step: of equal ones the last is taken
-abbrev pub LatestScan : (firsts doublings bits : List ℕ) → ℕ → Bool → ℕ → ℕ → Type 0
-LatestScan firsts doublings bits =
-    let size = heldSize firsts doublings bits in
-    Scan (λ i. decLt 0 (getD bits i 0)) (λ i j. decLe (size j) (size i)) size
+module _ {free : List ℕ} {size tone i : ℕ} (L : Least free size tone i) where
+  pub least-take : getD free i 0 < size → Least free (getD free i 0) i (i + 1)
+  least-take h = record {
+    low = below-more _ i (λ j l. omega (arith, L .low j l)) (omega arith);
+    first = λ j l. omega (arith, L .low j l);
+    at = λ m. (omega arith, refl);
+  }
+
+  pub least-keep : size ≤ getD free i 0 → Least free size tone (i + 1)
+  least-keep h = record {
+    low = below-more _ i (L .low) h;
+    first = L .first;
+    at = λ m. (omega (arith, L .at m .0), L .at m .1);
+  }
+
+-- Of the first i sizes the greatest is `size`, last at `tone`; before any is above it, `size` is 0.
+pub record Greatest (held : List ℕ) (size tone i : ℕ) : Type 0 where
+  pub high : (j : ℕ) → j < i → getD held j 0 ≤ size
+  pub last : (j : ℕ) → j < i → tone < j → getD held j 0 < size
+  pub at : size ≢ 0 → (tone < i) × (size ≡ getD held tone 0)
+
+pub greatest-start : {held : List ℕ} → Greatest held 0 0 0
+greatest-start = record { high = λ j l. omega arith; last = λ j l. omega arith; at = λ m. absurd (m refl) }
+
+module _ {held : List ℕ} {size tone i : ℕ} (G : Greatest held size tone i) where
+  pub greatest-take : size ≤ getD held i 0 → Greatest held (getD held i 0) i (i + 1)
+  greatest-take h = record {
+    high = below-more _ i (λ j l. omega (arith, G .high j l)) (omega arith);
+    last = λ j l q. omega arith;
+    at = λ m. (omega arith, refl);
+  }
+
+  pub greatest-keep : getD held i 0 < size → Greatest held size tone (i + 1)
+  greatest-keep h = record {
+    high = below-more _ i (G .high) (omega arith);
+    last = below-more _ i (G .last) (λ q. h);
+    at = λ m. (omega (arith, G .at m .0), G .at m .1);
+  }
+
+-- ---- what they find
 
 -- what `step_size` asks of a tone's step, at no more bits than its limit
 pub step-in-range : {count : ℕ} {limits firsts doublings : List ℕ} → InRange count limits firsts doublings
     → (i b : ℕ) → i < count → b ≤ getD limits i 0 → (getD firsts i 0 < 2 ^ 26) × (getD doublings i 0 * b ≤ 15)
 step-in-range {doublings = doublings} I i b l h = (I .first-high i l, omega (arith, I .shift-high i l, mul-le-mul-left (getD doublings i 0) h))
 
-module _ {count : ℕ} {limits firsts doublings bits : List ℕ} {T : Tones} {t : Table} (D : Describes count limits firsts doublings bits T t) where
-  pub earliest-found : {i : ℕ} {any : Bool} {tone size : ℕ} → EarliestScan limits firsts doublings bits i any tone size → i ≡ count
-      → best any tone ≡ earliestFree T t
-  unfolding earliestFree
-  earliest-found S e = sym (same-choice _ _ _ _ count agree (T .count) (omega (arith, D .same-count)) ∙ ap (choice _ _) (D .same-count ∙ sym e) ∙ S .chosen)
-    where
-      size : (i : ℕ) → i < count → t ! i < T .limit i → step T i (t ! i) ≡ freeSize firsts doublings bits i
-      size i l h = D .same-step i (t ! i) l h ∙ rw (D .same-bits i l)
+module _ {count : ℕ} {limits firsts doublings bits free held : List ℕ} {T : Tones} {t : Table} (I : InRange count limits firsts doublings)
+    (S : Sizes count limits firsts doublings bits free held) (D : Describes count limits firsts doublings bits T t) where
+  inside : {j : ℕ} → j < T .count → j < count
+  inside l = omega (arith, D .same-count)
 
-      agree : Agree count (λ i. t ! i < T .limit i) (λ i. getD bits i 0 < getD limits i 0)
-          (λ i j. Before T i (t ! i) j (t ! j)) (λ i j. freeSize firsts doublings bits i < freeSize firsts doublings bits j)
-      agree = record {
-        has-to = λ i l h. omega (arith, D .same-bits i l, D .same-limit i l);
-        has-from = λ i l h. omega (arith, D .same-bits i l, D .same-limit i l);
-        beats-to = λ i j l il hi hj. before-smaller T (size i il hi) (size j (omega arith) hj) l;
-        beats-from = λ i j l il hi hj. smaller-before T (size i il hi) (size j (omega arith) hj) l;
-      }
+  below : (j : ℕ) → j < count → t ! j < T .limit j → getD bits j 0 < getD limits j 0
+  below j l h = omega (arith, D .same-bits j l, D .same-limit j l)
 
-  pub latest-found : Under count limits bits → {i : ℕ} {any : Bool} {tone size : ℕ} → LatestScan firsts doublings bits i any tone size → i ≡ count
-      → best any tone ≡ latestHeld T t
-  unfolding latestHeld
-  latest-found U S e = sym (same-choice _ _ _ _ count agree (T .count) (omega (arith, D .same-count)) ∙ ap (choice _ _) (D .same-count ∙ sym e) ∙ S .chosen)
-    where
-      size : (i : ℕ) → i < count → 0 < t ! i → step T i (t ! i - 1) ≡ heldSize firsts doublings bits i
-      size i l h =
-          D .same-step i (t ! i - 1) l (omega (arith, U .under i l, D .same-bits i l, D .same-limit i l)) ∙ rw (D .same-bits i l)
+  free-size : (j : ℕ) → j < count → t ! j < T .limit j → step T j (t ! j) ≡ getD free j 0
+  free-size j l h = D .same-step j (t ! j) l h ∙ rw (D .same-bits j l) (sym (free-kept S j l (below j l h)))
 
-      agree : Agree count (λ i. 0 < t ! i) (λ i. 0 < getD bits i 0)
-          (λ i j. Before T j (t ! j - 1) i (t ! i - 1)) (λ i j. heldSize firsts doublings bits j ≤ heldSize firsts doublings bits i)
-      agree = record {
-        has-to = λ i l h. omega (arith, D .same-bits i l);
-        has-from = λ i l h. omega (arith, D .same-bits i l);
-        beats-to = λ i j l il hi hj. after-larger T (size i il hi) (size j (omega arith) hj) l;
-        beats-from = λ i j l il hi hj. larger-after T (size i il hi) (size j (omega arith) hj) l;
-      }
+  free-low : (j : ℕ) → j < count → t ! j < T .limit j → getD free j 0 < noStep
+  unfolding noStep
+  free-low j l h =
+      let b = getD bits j 0 in
+      let r = step-in-range I j b l (omega (arith, below j l h)) in
+      let k = getD doublings j 0 * b in
+      rw (free-kept S j l (below j l h)) (lt-of-lt-of-le (shl-lt 26 k (r .0)) (le-trans (pow-mono {i = 26 + k} {j = 41} (omega (arith, r .1))) (omega arith)))
+
+  module _ {size tone i : ℕ} (L : Least free size tone i) (all : i ≡ count) where
+    pub none-earliest : size ≡ noStep → none ≡ earliestFree T t
+    unfolding earliestFree
+    none-earliest e = sym (choice-none _ _ (T .count) (λ j l h. omega (arith, L .low j (omega (arith, inside l)), free-low j (inside l) h)))
+
+    free-there : size ≢ noStep → t ! tone < T .limit tone
+    free-there m = go (decLt (t ! tone) (T .limit tone))
+      where
+        go : Dec (t ! tone < T .limit tone) → t ! tone < T .limit tone
+        go (yes h) = h
+        go (no n) =
+            let l : tone < count = omega (arith, L .at m .0) in
+            absurd (m (L .at m .1 ∙ none-free S tone l (omega (arith, n, D .same-bits tone l, D .same-limit tone l))))
+
+    pub some-earliest : size ≢ noStep → some tone ≡ earliestFree T t
+    unfolding earliestFree
+    some-earliest m =
+        let l : tone < count = omega (arith, L .at m .0) in
+        let here = free-size tone l (free-there m) in
+        sym (choice-some _ _ tone (free-there m)
+        (λ j q h. smaller-before T here (free-size j (omega arith) h) q (omega (arith, L .first j q, L .at m .1)))
+        (T .count) (omega (arith, D .same-count))
+        (λ j q u h b. omega (arith, before-smaller T (free-size j (inside u) h) here q b, L .low j (omega (arith, inside u)), L .at m .1)))
+
+  module _ (U : Under count limits bits) where
+    held-size : (j : ℕ) → j < count → 0 < t ! j → step T j (t ! j - 1) ≡ getD held j 0
+    held-size j l h =
+        D .same-step j (t ! j - 1) l (omega (arith, U .under j l, D .same-bits j l, D .same-limit j l)) ∙ rw (D .same-bits j l) (sym (held-kept S j l (omega (arith, D .same-bits j l))))
+
+    held-high : (j : ℕ) → j < count → 0 < t ! j → 0 < getD held j 0
+    held-high j l h =
+        let has-bits : 0 < getD bits j 0 = omega (arith, D .same-bits j l) in
+        let b = getD bits j 0 - 1 in
+        rw (held-kept S j l has-bits) (mul-pos (I .first-low j l (omega (arith, U .under j l))) (pow-pos (getD doublings j 0 * b)))
+
+    module _ {size tone i : ℕ} (G : Greatest held size tone i) (all : i ≡ count) where
+      pub none-latest : size ≡ 0 → none ≡ latestHeld T t
+      unfolding latestHeld
+      none-latest e = sym (choice-none _ _ (T .count) (λ j l h. omega (arith, G .high j (omega (arith, inside l)), held-high j (inside l) h)))
+
+      held-there : size ≢ 0 → 0 < t ! tone
+      held-there m = go (decLt 0 (t ! tone))
+        where
+          go : Dec (0 < t ! tone) → 0 < t ! tone
+          go (yes h) = h
+          go (no n) =
+              let l : tone < count = omega (arith, G .at m .0) in
+              absurd (m (G .at m .1 ∙ none-held S tone l (omega (arith, n, D .same-bits tone l))))
+
+      pub some-latest : size ≢ 0 → some tone ≡ latestHeld T t
+      unfolding latestHeld
+      some-latest m =
+          let l : tone < count = omega (arith, G .at m .0) in
+          let here = held-size tone l (held-there m) in
+          sym (choice-some _ _ tone (held-there m)
+          (λ j q h. larger-after T here (held-size j (omega arith) h) q (omega (arith, G .high j (omega arith), G .at m .1)))
+          (T .count) (omega (arith, D .same-count))
+          (λ j q u h b. omega (arith, after-larger T (held-size j (inside u) h) here q b, G .last j (omega (arith, inside u)) q, G .at m .1)))

@@ -1,9 +1,10 @@
-// The earliest free step and the latest held one, by a scan over numbers lent as arrays.
+// The earliest free step and the latest held one, by a scan over numbers lent as arrays: the sizes of each tone's own.
+ghost use mathlib.Core.List.{List};
 ghost use mathlib.Core.Path.{_≡_};
-ghost use Prim.Native.Nat.{_*_, _^_, _≤_, _<_};
+ghost use Prim.Native.Nat.{ℕ, _*_, _^_, _≤_, _<_};
 ghost use Rattle.steps.specs.Tones.{Tones, Table};
 ghost use Rattle.steps.specs.Runs.{earliestFree, latestHeld};
-ghost use Rattle.search.specs.Flat.{InRange, Under, Describes, found};
+ghost use Rattle.search.specs.Flat.{InRange, Under, Describes, freeSize, heldSize, Sizes, found};
 
 // The tone whose step a search found, if any.
 pub enum Found {
@@ -12,73 +13,97 @@ pub enum Found {
 }
 
 // The size of a step: the first one, doubled `doublings` × bits times.
-pub fn step_size(first: u64, doublings: u8, bits: u8) -> u64
+fn step_size(first: u64, doublings: u8, bits: u8) -> u64
     requires { ⌜ (first < 2 ^ 26) × (doublings * bits ≤ 15) ⌝ }
     ensures { λ r. ⌜ r ≡ first * 2 ^ (doublings * bits) ⌝ }
 {
     first << (doublings as u32 * bits as u32)
 }
 
-// The tone of the earliest free step.
-pub fn earliest_free(
-    count: usize,
-    limits: &[u8; 256],
-    firsts: &[u64; 256],
-    doublings: &[u8; 256],
-    bits: &[u8; 256],
-) -> Found
-    requires { ⌜ InRange count (now limits) (now firsts) (now doublings) ⌝ }
-    ensures { λ r. ⌜ ((T : Tones) (t : Table) → Describes count (now (limits .entry)) (now (firsts .entry)) (now (doublings .entry)) (now (bits .entry)) T t → found r ≡ earliestFree T t) ⌝ }
+// The size of a tone's earliest free step; the largest number where none is free.
+pub fn free_size(limit: u8, first: u64, doublings: u8, bits: u8) -> u64
+    requires { ⌜ (first < 2 ^ 26) × (doublings * limit ≤ 15) ⌝ }
+    ensures { λ r. ⌜ r ≡ freeSize limit first doublings bits ⌝ }
 {
-    let mut size: u64 = 0;
-    let mut tone: usize = 0;
-    let mut any = false;
-    let mut i: usize = 0;
-    while i < count {
-        if bits[i] < limits[i] {
-            let step = step_size(firsts[i], doublings[i], bits[i]);
-            if !any || step < size {
-                any = true;
-                tone = i;
-                size = step;
-            }
-        }
-        i += 1;
+    if bits < limit {
+        return step_size(first, doublings, bits);
     }
-    if any {
-        return Found::Tone(tone);
-    }
-    Found::Nothing
+    u64::MAX
 }
 
-// The tone of the latest held step.
-pub fn latest_held(
+// The size of a tone's latest held step; 0 where none is held.
+pub fn held_size(first: u64, doublings: u8, bits: u8) -> u64
+    requires { ⌜ (first < 2 ^ 26) × (doublings * bits ≤ 15) ⌝ }
+    ensures { λ r. ⌜ r ≡ heldSize first doublings bits ⌝ }
+{
+    if 0 < bits {
+        return step_size(first, doublings, bits - 1);
+    }
+    0
+}
+
+// The sizes of every tone's earliest free and latest held step.
+pub fn fill_sizes(
     count: usize,
     limits: &[u8; 256],
     firsts: &[u64; 256],
     doublings: &[u8; 256],
     bits: &[u8; 256],
-) -> Found
+    free: &mut [u64; 256],
+    held: &mut [u64; 256],
+)
     requires { ⌜ InRange count (now limits) (now firsts) (now doublings) × Under count (now limits) (now bits) ⌝ }
-    ensures { λ r. ⌜ ((T : Tones) (t : Table) → Describes count (now (limits .entry)) (now (firsts .entry)) (now (doublings .entry)) (now (bits .entry)) T t → found r ≡ latestHeld T t) ⌝ }
+    ensures { λ r. ⌜ Sizes count (now (limits .entry)) (now (firsts .entry)) (now (doublings .entry)) (now (bits .entry)) (now (free .exit)) (now (held .exit)) ⌝ }
 {
-    let mut size: u64 = 0;
-    let mut tone: usize = 0;
-    let mut any = false;
+    // As slices: a slice's length is known to the proof.
+    let frees: &mut [u64] = free;
+    let helds: &mut [u64] = held;
     let mut i: usize = 0;
     while i < count {
-        if 0 < bits[i] {
-            let step = step_size(firsts[i], doublings[i], bits[i] - 1);
-            if !any || size <= step {
-                any = true;
-                tone = i;
-                size = step;
-            }
+        frees[i] = free_size(limits[i], firsts[i], doublings[i], bits[i]);
+        helds[i] = held_size(firsts[i], doublings[i], bits[i]);
+        i += 1;
+    }
+}
+
+// The tone of the earliest free step: of equal sizes the first.
+pub fn earliest_free(count: usize, free: &[u64; 256]) -> Found
+    requires { ⌜ count ≤ 256 ⌝ }
+    ensures { λ r. ⌜ ((limits firsts doublings bits held : List ℕ) → InRange count limits firsts doublings → Sizes count limits firsts doublings bits (now (free .entry)) held → (T : Tones) (t : Table) → Describes count limits firsts doublings bits T t → found r ≡ earliestFree T t) ⌝ }
+{
+    let mut size: u64 = u64::MAX;
+    let mut tone: usize = 0;
+    let mut i: usize = 0;
+    while i < count {
+        if free[i] < size {
+            size = free[i];
+            tone = i;
         }
         i += 1;
     }
-    if any {
-        return Found::Tone(tone);
+    if size == u64::MAX {
+        return Found::Nothing;
     }
-    Found::Nothing
+    Found::Tone(tone)
+}
+
+// The tone of the latest held step: of equal sizes the last.
+pub fn latest_held(count: usize, held: &[u64; 256]) -> Found
+    requires { ⌜ count ≤ 256 ⌝ }
+    ensures { λ r. ⌜ ((limits firsts doublings bits free : List ℕ) → InRange count limits firsts doublings → Under count limits bits → Sizes count limits firsts doublings bits free (now (held .entry)) → (T : Tones) (t : Table) → Describes count limits firsts doublings bits T t → found r ≡ latestHeld T t) ⌝ }
+{
+    let mut size: u64 = 0;
+    let mut tone: usize = 0;
+    let mut i: usize = 0;
+    while i < count {
+        if size <= held[i] {
+            size = held[i];
+            tone = i;
+        }
+        i += 1;
+    }
+    if size == 0 {
+        return Found::Nothing;
+    }
+    Found::Tone(tone)
 }

@@ -2,21 +2,30 @@
 use native.Mathlib.Omega.{arith}
 use Prim.Native.Nat.{_-_}
 use borrow.Author.Needs.{needs}
+use Rattle.loading.proofs.Moves.{under}
 use Rattle.runs.proofs.Loop.{Along, along-starts, along-full, along-moved, along-finished}
 use Rattle.runs.proofs.run.Statement.{statement}
 use Rattle.runs.proofs.run.Tie as tie
 
 abbrev Inv-loop : tie.InvT-loop
-Inv-loop rule most budget count limits firsts doublings table₀ moves₀ table moves = Along count limits firsts doublings rule most budget table₀ table moves
+Inv-loop rule most budget count limits firsts doublings free₀ held₀ table₀ moves₀ free held table moves =
+    Along count limits firsts doublings rule most budget table₀ table moves free held
 
 abbrev μ-loop : tie.MeasureT-loop
-μ-loop rule most budget count limits firsts doublings table₀ moves₀ table moves = most - moves
+μ-loop rule most budget count limits firsts doublings free₀ held₀ table₀ moves₀ free held table moves = most - moves
+
+fill-sizes-requires : tie.Need-fill-sizes-requires Inv-loop μ-loop
+fill-sizes-requires c κs =
+    let R = c .before .before .before .before .pre in
+    (R .in-range, under R)
 
 loop-holds : tie.Need-loop-holds Inv-loop μ-loop
-loop-holds c = along-starts (c .pre)
+loop-holds c = along-starts (c .before .before .before .before .before .pre) (c .fill-sizes .ensures)
 
 step-requires : tie.Need-step-requires Inv-loop μ-loop
-step-requires c κs = c .before .loop .inv .runnable
+step-requires c κs =
+    let A = c .before .before .before .loop .inv in
+    (A .runnable, A .sizes)
 
 enum-told : tie.Need-enum-told Inv-loop μ-loop
 enum-told c = search needs
@@ -24,7 +33,7 @@ enum-told c = search needs
 returns : tie.Need-returns Inv-loop μ-loop
 returns c =
     let a = c .before .before .before in
-    along-finished (a .before .before .loop .inv) (a .step .result) (a .step .ensures) (c .enum-told .given .1)
+    along-finished (a .before .before .before .before .loop .inv) (a .step .result) (a .step .ensures .0) (c .enum-told .given .1)
 
 enum-told-2 : tie.Need-enum-told-2 Inv-loop μ-loop
 enum-told-2 c = search needs
@@ -33,12 +42,12 @@ add-moves : tie.Need-add-moves Inv-loop μ-loop
 add-moves c = search needs
 
 loop-less : tie.Need-loop-less Inv-loop μ-loop
-loop-less c = omega (arith, c .before .before .before .before .loop-test .taken)
+loop-less c = omega (arith, c .before .before .before .before .before .before .loop-test .taken)
 
 loop-again : tie.Need-loop-again Inv-loop μ-loop
 loop-again c =
     let a = c .before .before .before in
-    along-moved (a .before .before .loop .inv) (a .step .result) (a .step .ensures) (c .enum-told2 .given .1) (a .before .loop-test .taken)
+    along-moved (a .before .before .before .before .loop .inv) (a .step .result) (a .step .ensures .0) (a .step .ensures .1) (c .enum-told2 .given .1) (a .before .before .before .loop-test .taken)
 
 returns-2 : tie.Need-returns-2 Inv-loop μ-loop
 returns-2 c = along-full (c .before .loop .inv) (c .loop-test .left)
@@ -49,6 +58,7 @@ run-spec =
     (tie.spec
     Inv-loop
     μ-loop
+    fill-sizes-requires
     loop-holds
     step-requires
     enum-told

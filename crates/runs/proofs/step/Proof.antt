@@ -16,10 +16,10 @@ refit-step-requires : tie.Need-refit-step-requires
 refit-step-requires c κs = search needs
 
 returns : tie.Need-returns
-returns c = rw (c .before .enum-told .given .1) (c .add-step .ensures)
+returns c = (rw (c .before .before .before .enum-told .given .1) (c .add-step .ensures .0), c .add-step .ensures .1)
 
 returns-2 : tie.Need-returns-2
-returns-2 c = rw (c .before .enum-told2 .given .1) (c .refit-step .ensures)
+returns-2 c = (rw (c .before .before .before .enum-told2 .given .1) (c .refit-step .ensures .0), c .refit-step .ensures .1)
 
 pub step-spec : {M : Type 1} → statement M
 step-spec = tie.close (tie.spec enum-told add-step-requires enum-told-2 refit-step-requires returns returns-2)

@@ -1,46 +1,34 @@
--- `search::earliest_free` meets its contract: between its turns the loop knows the best of the tones passed (`EarliestScan`). Assumes nothing.
-use mathlib.Core.Path.{_∙_}
-use mathlib.Core.Logic.{inl, inr, ⊎-elim}
+-- `search::earliest_free` meets its contract: between its turns the loop knows the least of the sizes passed (`Least`). Assumes nothing.
+use mathlib.Core.Logic.{⊎-elim}
 use Prim.Native.Nat.{_-_, _≤_}
-use native.Mathlib.Numerals.{add-one}
 use native.Mathlib.Omega.{arith}
 use borrow.Author.Needs.{needs}
-use borrow.Author.Tests.{ltb-true, ltb-false, leb-true, leb-false, not-true, not-false}
-use Rattle.search.proofs.Scans.{EarliestScan, scan-start, scan-skip, scan-take, scan-keep, step-in-range, earliest-found}
+use Rattle.search.specs.Flat.{noStep}
+use Rattle.search.proofs.Scans.{Least, least-start, least-take, least-keep, none-earliest, some-earliest}
 use Rattle.search.proofs.earliest_free.Statement.{statement}
 use Rattle.search.proofs.earliest_free.Tie as tie
 
 abbrev Inv-loop : tie.InvT-loop
-Inv-loop count limits firsts doublings bits size₀ tone₀ any₀ i₀ size tone any i = (i ≤ count) × EarliestScan limits firsts doublings bits i any tone size
+Inv-loop count free size₀ tone₀ i₀ size tone i = (i ≤ count) × Least free size tone i
 
 abbrev μ-loop : tie.MeasureT-loop
-μ-loop count limits firsts doublings bits size₀ tone₀ any₀ i₀ size tone any i = count - i
+μ-loop count free size₀ tone₀ i₀ size tone i = count - i
 
 loop-holds : tie.Need-loop-holds Inv-loop μ-loop
-loop-holds c = (omega arith, scan-start)
+unfolding noStep
+loop-holds c = (omega arith, least-start)
+
+mul-if1 : tie.Need-mul-if1 Inv-loop μ-loop
+mul-if1 c = search needs
 
 element-copy-out-if1 : tie.Need-element-copy-out-if1 Inv-loop μ-loop
 element-copy-out-if1 c = search needs
 
-element-copy-out-if1-2 : tie.Need-element-copy-out-if1-2 Inv-loop μ-loop
-element-copy-out-if1-2 c = search needs
+mul-size : tie.Need-mul-size Inv-loop μ-loop
+mul-size c = search needs
 
-mul-step-size : tie.Need-mul-step-size Inv-loop μ-loop
-mul-step-size c = search needs
-
-element-copy-out-step-size : tie.Need-element-copy-out-step-size Inv-loop μ-loop
-element-copy-out-step-size c = search needs
-
-element-copy-out-step-size-2 : tie.Need-element-copy-out-step-size-2 Inv-loop μ-loop
-element-copy-out-step-size-2 c = search needs
-
-element-copy-out-step-size-3 : tie.Need-element-copy-out-step-size-3 Inv-loop μ-loop
-element-copy-out-step-size-3 c = search needs
-
-step-size-requires : tie.Need-step-size-requires Inv-loop μ-loop
-step-size-requires c κs =
-    let a = c .before .before .before .before .before .before .before in
-    step-in-range (a .before .pre) (a .loop .i) _ (omega arith) (omega arith)
+element-copy-out-size : tie.Need-element-copy-out-size Inv-loop μ-loop
+element-copy-out-size c = search needs
 
 add-i : tie.Need-add-i Inv-loop μ-loop
 add-i c = search needs
@@ -50,22 +38,21 @@ loop-less c = search needs
 
 loop-again : tie.Need-loop-again Inv-loop μ-loop
 loop-again c =
-    let v = c .before .before .before .before .loop .inv .1 in (
+    let v = c .before .before .before .loop .inv .1 in (
       omega arith,
-      rw add-one
-          (⊎-elim
-          (λ w. rw (w .6 ∙ w .4 .ensures, w .7, w .8) (scan-take v (omega (arith, w .0 .taken)) (⊎-elim (λ u. inl (not-true _ (u .taken))) (λ u. inr (omega (arith, ltb-true, leb-true, u .1 .taken, w .4 .ensures, v .sized (not-false _ (u .0 .left))))) (w .5 .came))))
-          (⊎-elim
-          (λ w. rw (w .7, w .8, w .9) (scan-keep v (omega (arith, w .0 .taken)) (not-false _ (w .5 .left)) (λ x. omega (arith, ltb-false, leb-false, w .6 .left, w .4 .ensures, v .sized (not-false _ (w .5 .left))))))
-          (λ w. rw (w .1, w .2, w .3) (scan-skip v (λ h. omega (arith, w .0 .left)))))
-          (c .if1 .came)),
+      ⊎-elim
+          (λ w. rw (w .2, w .3) (least-take v (omega (arith, w .0 .taken))))
+          (λ w. rw (w .1, w .2) (least-keep v (omega (arith, w .0 .left))))
+          (c .if1 .came),
     )
 
 returns : tie.Need-returns Inv-loop μ-loop
-returns c = λ T t D. rw (c .if4 .taken) at (earliest-found D (c .before .before .loop .inv .1) (omega arith))
+unfolding noStep
+returns c = λ limits firsts doublings bits other I S T t D. none-earliest I S D (c .before .before .loop .inv .1) (omega arith) (c .if2 .taken)
 
 returns-2 : tie.Need-returns-2 Inv-loop μ-loop
-returns-2 c = λ T t D. rw (c .if4 .left) at (earliest-found D (c .before .before .loop .inv .1) (omega arith))
+unfolding noStep
+returns-2 c = λ limits firsts doublings bits other I S T t D. some-earliest I S D (c .before .before .loop .inv .1) (omega arith) (c .if2 .left)
 
 pub earliest-free-spec : {M : Type 1} → statement M
 earliest-free-spec =
@@ -74,13 +61,10 @@ earliest-free-spec =
     Inv-loop
     μ-loop
     loop-holds
+    mul-if1
     element-copy-out-if1
-    element-copy-out-if1-2
-    mul-step-size
-    element-copy-out-step-size
-    element-copy-out-step-size-2
-    element-copy-out-step-size-3
-    step-size-requires
+    mul-size
+    element-copy-out-size
     add-i
     loop-less
     loop-again

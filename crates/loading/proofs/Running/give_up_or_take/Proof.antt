@@ -1,6 +1,7 @@
 -- `loading::Running::give_up_or_take` meets its contract. Assumes nothing.
 use mathlib.Core.Path.{refl, _∙_}
 use native.Mathlib.Omega.{arith}
+use lib.ListN.{getD}
 use borrow.Author.Needs.{needs}
 use Rattle.search.specs.Flat.{found}
 use Rattle.loading.proofs.Moves.{CanGiveUp, can-give-up, held-found, give-up-stands, gives-up, takes, hands-moved}
@@ -8,47 +9,46 @@ use Rattle.loading.proofs.Running.give_up_or_take.Statement.{statement}
 use Rattle.loading.proofs.Running.give_up_or_take.Tie as tie
 
 -- what the code may do with the held step
-can : (c : tie.Then1) → CanGiveUp (c .before .args .firsts .now) (c .before .args .doublings .now) (c .before .args .t1) (c .before .args .held)
-can c = can-give-up (c .before .pre .0) (c .before .pre .1) refl
+can : (c : tie.Then1)
+    → let s = c .before .before in CanGiveUp (s .args .count) (s .args .limits .now) (s .args .firsts .now) (s .args .doublings .now) (s .args .self) (s .args .latest) (getD (s .args .held .now) (s .args .latest) 0)
+can c = can-give-up (c .before .before .pre .0) (c .before .before .pre .1) (c .before .before .pre .2) refl
 
-element-copy-out-size-at : tie.Need-element-copy-out-size-at
-element-copy-out-size-at c = can c .measurable .inside
+mul-step : tie.Need-mul-step
+mul-step c = record { fits = omega (arith, can c .inside) }
 
-sub-size-at : tie.Need-sub-size-at
-sub-size-at c = can (c .before) .held
-
-size-at-requires : tie.Need-size-at-requires
-size-at-requires c κs = can (c .before) .measurable
+element-copy-out-step : tie.Need-element-copy-out-step
+element-copy-out-step c = can c .inside
 
 give-up-requires : tie.Need-give-up-requires
-give-up-requires c κs = let k = can (c .before .before) in (k .measurable .inside, k .held, omega (arith, c .size-at .ensures))
+give-up-requires c κs = let k = can (c .before .before .before) in (c .before .before .before .before .before .pre .0 .in-range, c .before .before .before .before .before .pre .1, k .tone, k .held, k .within, k .bounded)
 
 moved-requires : tie.Need-moved-requires
 moved-requires c κs = search needs
 
 returns : tie.Need-returns
-returns c = λ T t S.
-    let a = c .before .before .before .before .before in
-    let k = can (c .before .before .before .before) in
-    let L = held-found S (a .pre .1) refl in
-    rw (gives-up S (a .args .budget) (a .args .held) (found (a .args .free)) (c .before .before .before .before .if1 .taken))
-    (hands-moved S (c .moved .ensures ∙ rw (c .before .give-up .ensures .0)) (give-up-stands S L (c .before .before .size-at .ensures) (omega (arith, k .measurable .inside, c .before .give-up .ensures .1))))
+returns c =
+    let a = c .before .before .before .before .before .before .before in
+    let k = can (c .before .before .before .before .before) in (
+      λ T t S.
+          rw (gives-up S (a .args .budget) (a .args .latest) (found (a .args .earliest)) (c .before .before .before .before .before .if1 .taken))
+          (hands-moved S (c .moved .ensures ∙ rw (c .before .give-up .ensures .0 .0)) (give-up-stands S (held-found S (a .pre .2) refl) (k .sized) (omega (arith, k .inside, c .before .give-up .ensures .0 .1)))),
+      rw (c .moved .ensures) (c .before .give-up .ensures .1),
+    )
 
 take-if-fits-requires : tie.Need-take-if-fits-requires
-take-if-fits-requires c κs = (c .before .pre .0, c .before .pre .2)
+take-if-fits-requires c κs = search needs
 
 returns-2 : tie.Need-returns-2
-returns-2 c = λ T t S.
-    let a = c .before .before in
-    rw (takes S (a .args .budget) (a .args .held) (found (a .args .free)) (c .before .if1 .left)) (c .take-if-fits .ensures T t S)
+returns-2 c =
+    let a = c .before .before .before .before .before in
+    (λ T t S. rw (takes S (a .args .budget) (a .args .latest) (found (a .args .earliest)) (c .before .before .before .if1 .left)) (c .take-if-fits .ensures .0 T t S), c .take-if-fits .ensures .1)
 
 pub give-up-or-take-spec : {M : Type 1} → statement M
 give-up-or-take-spec =
     tie.close
     (tie.spec
-    element-copy-out-size-at
-    sub-size-at
-    size-at-requires
+    mul-step
+    element-copy-out-step
     give-up-requires
     moved-requires
     returns
