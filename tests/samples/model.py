@@ -1,10 +1,11 @@
 #!/usr/bin/env python3
-"""A model of document 01's line sheet, written from the paper and the readings of docs/DECISIONS.md: reading with its refusals, check, tidy.
+"""A model of document 01, written from the paper and the readings of docs/DECISIONS.md: reading a sheet with its refusals,
+check, tidy, the loadings and the re-fit. Plain and slow.
 
-  model.py < stdin > stdout      what the test program prints for a text of sheets
+  model.py < stdin > stdout      what the test program prints for a text of calls
   model.py --selftest            the paper's own statements
 """
-import sys
+import functools, re, sys
 
 
 class Refused(Exception):
@@ -140,19 +141,184 @@ def tidy(sheet, room):
     return out
 
 
+# Loading.
+
+class Loading:
+    """A line's tones as the runs see them. Steps are pairs (size, tone), which Python orders as the paper does: by size, then by
+    lower tone number."""
+
+    def __init__(self, line):
+        self.line, self.tones = line, range(line.size)
+        self.limits = [self.limit(tone) for tone in self.tones]
+        self.powers = [[self.power(tone, b) for b in range(self.limits[tone] + 1)] for tone in self.tones]
+
+    def cost(self, tone):
+        """The smallest whole number not below g × noise / (256 × gain)."""
+        _, noise, gain, _, _ = self.line.tones[tone]
+        return -(-self.line.gap * noise // (256 * gain))
+
+    def power(self, tone, bits):
+        """Pair w × (2^b - 1), single w × (4^b - 1). No bits, no power."""
+        if bits == 0:
+            return 0
+        return self.cost(tone) * ({0x04: 2, 0x05: 4}[self.line.tones[tone][0]] ** bits - 1)
+
+    def limit(self, tone):
+        """The largest b that is at most the cap and has power at most the mask; 0 of a tone not described, or silenced."""
+        if tone not in self.line.tones or tone in self.line.silenced:
+            return 0
+        _, _, _, cap, mask = self.line.tones[tone]
+        return max(b for b in range(cap + 1) if self.power(tone, b) <= mask)
+
+    def total(self, table):
+        return sum(self.powers[tone][bits] for tone, bits in enumerate(table))
+
+    def step(self, tone, bits):
+        """The power of b + 1 bits less the power of b."""
+        return self.powers[tone][bits + 1] - self.powers[tone][bits], tone
+
+    # "Steps of one tone strictly rise", so its first free step is the one at its bits, and its last held step the one below.
+
+    def earliest_free(self, table):
+        return min((self.step(tone, table[tone]) for tone in self.tones if table[tone] < self.limits[tone]), default=None)
+
+    def latest_held(self, table):
+        return max((self.step(tone, table[tone] - 1) for tone in self.tones if table[tone] > 0), default=None)
+
+    def fits(self, table, step):
+        return self.total(table) + step[0] <= self.line.budget
+
+    def adding(self, target=None):
+        """Most bits, or a set number of bits."""
+        table = [0] * self.line.size
+        while sum(table) != target:
+            free = self.earliest_free(table)
+            if free is None or not self.fits(table, free):
+                break
+            table[free[1]] += 1
+        return table
+
+    def refit_step(self, table):
+        """The table after the step, and whether it moved."""
+        table, held, free = list(table), self.latest_held(table), self.earliest_free(table)
+        if held and free and free < held:
+            table[held[1]] -= 1
+            table[free[1]] += 1
+        elif self.total(table) > self.line.budget:
+            table[held[1]] -= 1
+        elif free and self.fits(table, free):
+            table[free[1]] += 1
+        else:
+            return table, False
+        return table, True
+
+    def refit(self, table):
+        """The table that the run ends in, and the number of moves."""
+        moves, (table, moved) = 0, self.refit_step(table)
+        while moved:
+            moves, (table, moved) = moves + 1, self.refit_step(table)
+        return table, moves
+
+    def least_powers(self):
+        """For each number of bits the least power of a table within the limits that carries it: every table is weighed."""
+        least = [0]
+        for powers in self.powers:
+            sums = {}
+            for bits, so_far in enumerate(least):
+                for more, power in enumerate(powers):
+                    sums[bits + more] = min(sums.get(bits + more, so_far + power), so_far + power)
+            least = [sums[bits] for bits in range(len(sums))]
+        return least
+
+    def written(self, table):
+        """9 bytes a tone: bits, then power in 8 bytes, high byte first."""
+        return b"".join(bytes([bits]) + self.powers[tone][bits].to_bytes(8, "big") for tone, bits in enumerate(table))
+
+
+@functools.lru_cache(maxsize=None)
+def loading_of(sheet):
+    return Loading(read(sheet))
+
+
+@functools.lru_cache(maxsize=None)
+def run(word, argument, sheet):
+    """The table that a call ends in, and the moves: the target of a loading, or the start of a re-fit, meets no refusal."""
+    loading = loading_of(sheet)
+    if word == "most":
+        return loading.adding(), None
+    if word == "target":
+        return loading.adding(argument), None
+    if word == "step":
+        table, moved = loading.refit_step(argument)
+        return table, int(moved)
+    return loading.refit(argument)
+
+
+def carried(loading, target):
+    """Whether a table within limits and budget carries the target. Long lines are answered by the run, which `hold` compares
+    with this on the others."""
+    if sum(loading.limits) > 400:
+        return sum(loading.adding(target)) == target
+    return target <= sum(loading.limits) and loading.least_powers()[target] <= loading.line.budget
+
+
+def call(word, argument, sheet, room):
+    """A loading (`most`, `target` with a number) or a re-fit (`refit`, `step`, each with a start): its answers and bytes."""
+    loading = loading_of(sheet)
+    if room < 9 * loading.line.size:
+        raise Refused(8, 0)
+    if word in ("refit", "step"):
+        if len(argument) != loading.line.size:
+            raise Refused(9, 0)
+        for tone, bits in enumerate(argument):
+            if bits > loading.limits[tone]:
+                raise Refused(10, tone)
+    if word == "target" and not carried(loading, argument):
+        raise Refused(11, 0)
+    table, moves = run(word, argument, sheet)
+    hold(loading, word, argument, table, moves, sheet)
+    answers = (sum(table), loading.total(table)) + (() if moves is None else (moves,))
+    return answers, loading.written(table)
+
+
+def hold(loading, word, argument, table, moves, sheet):
+    """What the paper says of a table beyond how it is found."""
+    assert all(bits <= limit for bits, limit in zip(table, loading.limits))
+    bits, power, budget = sum(table), loading.total(table), loading.line.budget
+    if word == "step":
+        return
+    assert power <= budget
+    if word == "target":
+        assert bits == argument
+    if word == "refit":
+        # Demand 3, and a bound on the moves: as many as the limits add up to.
+        assert table == run("most", None, sheet)[0] and moves <= sum(loading.limits)
+    if sum(loading.limits) <= 400:
+        least = loading.least_powers()
+        assert power == least[bits]
+        if word != "target":
+            assert all(power > budget for power in least[bits + 1:])
+
+
 # The test program's text format.
 
 ROOM = 4200
 
 
-def sheet_of(text):
-    if text == "-":
-        return b""
-    out = bytearray()
-    for item in text.split():
-        byte, _, times = item.partition("*")
-        assert len(byte) == 2 and byte == byte.lower() and len(times) <= 4, item
-        out += bytes.fromhex(byte) * (int(times) if times else 1)
+def bytes_of(text):
+    """Bytes as crates/sampletext reads them."""
+    out, last = bytearray(), 255
+    assert re.fullmatch(r" *-? *|([ 0-9a-f*+=]|\([ 0-9a-f*+=]*\)\*\d+(?!\d))*", text), text
+    for group, times, plain in re.findall(r"\(([^)]*)\)\*(\d+)|([^(]+)", text):
+        for _ in range(int(times or 1)):
+            for item in re.findall(r"[0-9a-f]{2}\*\d+|[0-9a-f]{2}|\+\+|==|[^ ]", group or plain):
+                if item == "++":
+                    last = (last + 1) % 256
+                if item in ("++", "=="):
+                    out.append(last)
+                elif item != "-":
+                    byte, _, many = item.partition("*")
+                    out += bytes.fromhex(byte) * int(many or 1)
     return bytes(out[:ROOM])
 
 
@@ -174,13 +340,54 @@ def report(sheet):
     return lines
 
 
+def tones_of(table):
+    """A table's 9 bytes a tone as the test program prints them."""
+    if len(table) > 32 * 9:
+        return " length and sum %d %d" % (len(table), sum((len(table) - i) * byte for i, byte in enumerate(table)) % 2**64)
+    return "".join(" %d:%d" % (table[i], number(table[i + 1:i + 9])) for i in range(0, len(table), 9))
+
+
+def call_of(row):
+    """The word, the argument and the sheet of a line that is a loading or a re-fit; else None."""
+    word, _, rest = row.partition(" ")
+    if word not in ("most", "target", "refit", "step"):
+        return None
+    argument, slash, sheet = rest.partition("/")
+    assert slash and len(sheet) > 0, row
+    argument = int(argument) if word == "target" else bytes_of(argument) if argument.strip() else None
+    return word, argument, bytes_of(sheet)
+
+
+def report_call(word, argument, sheet):
+    """The lines that the test program prints for a loading or a re-fit."""
+    try:
+        size = read(sheet).size
+    except Refused:
+        size = 0
+    try:
+        answers, table = call(word, argument, sheet, ROOM)
+        lines = [" ".join(["loaded" if len(answers) == 2 else "refitted"] + [str(n) for n in answers])]
+        lines += ["table" + tones_of(table)]
+        lines += ["exact " + ("same" if call(word, argument, sheet, 9 * size) == (answers, table) else "differs")]
+    except Refused as r:
+        lines = ["refused %d %d untouched" % r.args]
+    try:
+        call(word, argument, sheet, max(9 * size - 1, 0))
+        lines.append("short 0 0 touched")
+    except Refused as r:
+        lines.append("short %d %d untouched" % r.args)
+    return lines
+
+
 def expected(text):
     lines = []
     for row in text.split("\n"):
         if row.startswith("#"):
             lines.append(row)
+        elif call_of(row):
+            lines += report_call(*call_of(row))
         elif row:
-            lines += report(sheet_of(row))
+            lines += report(bytes_of(row))
     return "".join(l + "\n" for l in lines)
 
 
@@ -199,7 +406,70 @@ def refusal(sheet):
     return (0, 0)
 
 
+def sample(budget):
+    return SAMPLE[:7] + budget.to_bytes(8, "big") + SAMPLE[15:]
+
+
+def one_tone(kind, gap, noise, gain, cap, mask):
+    line = Line()
+    line.size, line.gap, line.budget, line.tones = 1, gap, 0, {0: (kind, noise, gain, cap, mask)}
+    return Loading(line)
+
+
+def refused_call(*words):
+    try:
+        call(*words)
+    except Refused as r:
+        return r.args
+
+
+def loading_selftest():
+    # "Limits 5, 2, 3", and the cases below "Sample line".
+    assert loading_of(SAMPLE).limits == [5, 2, 3]
+    most = {39: ([3, 2, 1], 39), 38: ([2, 2, 1], 27), 50: ([3, 2, 1], 39), 51: ([3, 2, 2], 51), 2: ([0, 0, 0], 0), 3: ([1, 0, 0], 3),
+            170: ([5, 2, 2], 123), 171: ([5, 2, 3], 171)}
+    for budget, (table, power) in most.items():
+        assert loading_of(sample(budget)).adding() == table
+        assert call("most", None, sample(budget), 27)[0] == (sum(table), power)
+    assert [loading_of(SAMPLE).powers[t][b] for t, b in enumerate([3, 2, 1])] == [21, 15, 3]
+    assert call("target", 6, sample(39), 27)[0] == (6, 39) and refused_call("target", 6, sample(38), 27) == (11, 0)
+    assert all(refused_call("target", 11, sample(b), 27) == (11, 0) for b in (0, 38, 39, 171, 2**47))
+    assert call("target", 0, sample(39), 27) == ((0, 0), bytes(27))
+    steps = [[0, 2, 3], [1, 2, 2], [2, 2, 1], [3, 2, 1]]
+    assert call("refit", bytes(steps[0]), sample(39), 27)[0] == (6, 39, 3)
+    assert all(loading_of(SAMPLE).refit_step(a) == (b, True) for a, b in zip(steps, steps[1:]))
+    assert loading_of(SAMPLE).refit_step(steps[3]) == (steps[3], False)
+    assert loading_of(sample(38)).refit([0, 2, 3]) == ([2, 2, 1], 2)
+    assert one_tone(4, 257, 1, 1, 0, 0).cost(0) == 2 and one_tone(4, 256, 7, 2, 0, 0).cost(0) == 4
+    assert [one_tone(4, 256, 3, 1, 15, mask).limits[0] for mask in (2, 3, 8, 9)] == [0, 1, 1, 2]
+    # "from 1 to 16,776,705"; "at least that exact fraction and less than 1 above it".
+    assert one_tone(5, 65535, 65535, 1, 0, 0).cost(0) == 16776705 and one_tone(5, 256, 1, 65535, 0, 0).cost(0) == 1
+    # The refusals in number order.
+    assert refused_call("refit", b"\0" * 4, SAMPLE, 26) == (8, 0) and refused_call("refit", b"\xff" * 4, SAMPLE, 27) == (9, 0)
+    assert refused_call("step", bytes([5, 3, 4]), SAMPLE, 27) == (10, 1) and refused_call("target", 11, SAMPLE, 26) == (8, 0)
+    # The earliest free and the latest held step are those of all steps, and steps of one tone strictly rise.
+    import random
+    dice = random.Random(2)
+    for _ in range(500):
+        line = Line()
+        line.size, line.gap, line.budget = dice.randint(1, 6), dice.randint(256, 1024), dice.randint(0, 400)
+        for tone in dice.sample(range(line.size), dice.randint(0, line.size)):
+            kind = dice.choice([4, 5])
+            line.tones[tone] = (kind, dice.randint(1, 6), dice.randint(1, 3), dice.randint(0, CAPS[kind][1]), dice.randint(0, 300))
+        line.silenced = set(dice.sample(range(line.size), dice.randint(0, line.size // 2)))
+        loading = Loading(line)
+        table = [dice.randint(0, limit) for limit in loading.limits]
+        held = [loading.step(t, b) for t in loading.tones for b in range(table[t])]
+        free = [loading.step(t, b) for t in loading.tones for b in range(table[t], loading.limits[t])]
+        assert loading.earliest_free(table) == min(free, default=None) and loading.latest_held(table) == max(held, default=None)
+        for tone in loading.tones:
+            sizes = [loading.step(tone, b) for b in range(loading.limits[tone])]
+            assert all(a < b for a, b in zip(sizes, sizes[1:]))
+        assert loading.refit(table)[0] == loading.adding() and loading.refit(table)[1] <= sum(loading.limits)
+
+
 def selftest():
+    loading_selftest()
     assert len(SAMPLE) == 61
     # "Gap 256; tone 0 pair, noise 3, cap 15; tone 1 pair, noise 5, cap 2; tone 2 single, noise 1, cap 7; gains 1,
     # masks 100"; "the sample at 39".

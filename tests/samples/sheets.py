@@ -1,40 +1,96 @@
 #!/usr/bin/env python3
-"""Writes the text of sheets for the test program, and holds the model to the answer noted beside each sheet.
+"""Writes the text of calls for the test program, and holds the model to the answer noted beside each.
 
-  sheets.py SAMPLES-FOLDER       writes stdin (the sheets) and stdout (what the model of document 01 answers)
+  sheets.py SAMPLES-FOLDER       writes stdin (the calls) and stdout (what the model of document 01 answers)
 """
 import random, sys
 import model
 
-ROWS, COUNT = [], 0
+ROWS, SHEETS, LOADINGS = [], 0, 0
 
 
 def group(text):
     ROWS.append("# " + text)
 
 
-def spelled(sheet):
-    """Hex bytes with blanks between; four or more of one byte as a repeat."""
+def hexed(data, between):
+    """Bytes in hex; four or more of one as a repeat, which stands between blanks."""
     items, i = [], 0
-    while i < len(sheet):
-        n = 1
-        while i + n < len(sheet) and sheet[i + n] == sheet[i]:
-            n += 1
-        items += ["%02x*%d" % (sheet[i], n)] if n > 3 else ["%02x" % sheet[i]] * n
+    while i < len(data):
+        n = len(data) - i - len(data[i:].lstrip(data[i:i + 1]))
+        items += [" %02x*%d " % (data[i], n)] if n > 3 else ["%02x" % data[i]] * n
         i += n
-    return " ".join(items) or "-"
+    return " ".join(between.join(items).split())
+
+
+def spelled(sheet):
+    """A sheet as text: a word for each command, as far as commands stand there; four or more of one command as a repeat. A text
+    stays as it is."""
+    if isinstance(sheet, str):
+        return sheet
+    words, at = [], 0
+    while at < len(sheet) and len(model.OPERANDS.get(sheet[at], [])) > 0:
+        width, times = 1 + sum(w for _, w in model.OPERANDS[sheet[at]]), 1
+        word = sheet[at:at + width]
+        while sheet[at + times * width:][:width] == word:
+            times += 1
+        if times > 3:
+            words.append("(%s)*%d" % (hexed(word, ""), times))
+        else:
+            words += [hexed(word, "")] * times
+        at += times * width
+    return " ".join(words + [hexed(sheet[at:], " ")]).strip() or "-"
+
+
+def bytes_of(sheet):
+    return model.bytes_of(sheet) if isinstance(sheet, str) else sheet
 
 
 def add(sheet, answer):
     """`answer` is (number, place) of a refusal, or (N, described, silenced)."""
-    global COUNT
-    COUNT += 1
+    global SHEETS
+    SHEETS += 1
     try:
         got = model.check(sheet)
     except model.Refused as r:
         got = r.args
     assert got == answer, (spelled(sheet)[:200], got, answer)
+    assert model.bytes_of(spelled(sheet)) == sheet[:model.ROOM], spelled(sheet)
     ROWS.append(spelled(sheet))
+
+
+def loading(word, argument, text, sheet, answer):
+    """`answer` is (number, place) of a refusal, the bits of a table, (bits, moves) of a re-fit, or None where none is noted."""
+    global LOADINGS
+    LOADINGS += 1
+    try:
+        answers, table = model.call(word, argument, bytes_of(sheet), model.ROOM)
+        got = list(table[::9])
+        got = (got, answers[2]) if len(answers) == 3 else got
+    except model.Refused as r:
+        got = r.args
+    assert answer is None or got == answer, (word, argument, spelled(sheet)[:200], got, answer)
+    row = word + " " + text + "/ " + spelled(sheet)
+    assert model.call_of(row) == (word, argument, bytes_of(sheet)[:model.ROOM]), row
+    ROWS.append(row)
+    return got
+
+
+def most(sheet, answer=None):
+    return loading("most", None, "", sheet, answer)
+
+
+def target(bits, sheet, answer=None):
+    return loading("target", bits, "%d " % bits, sheet, answer)
+
+
+def refit(start, sheet, answer=None, word="refit"):
+    text = start if isinstance(start, str) else hexed(bytes(start), " ") or "-"
+    return loading(word, model.bytes_of(text), text + " ", sheet, answer)
+
+
+def step(start, sheet, answer=None):
+    return refit(start, sheet, answer, "step")
 
 
 def size(n=3):
@@ -49,8 +105,8 @@ def budget(b=39):
     return b"\x03" + b.to_bytes(8, "big")
 
 
-def head(n=3):
-    return size(n) + gap() + budget()
+def head(n=3, b=39):
+    return size(n) + gap() + budget(b)
 
 
 def tone(command, number, noise=3, gain=1, cap=5, mask=100):
@@ -102,14 +158,14 @@ for g, answer in [(0, (4, 4)), (255, (4, 4)), (256, (3, 0, 0)), (257, (3, 0, 0))
 group("budget: 0, 2^47 - 1, 2^47, 2^47 + 1, 2^48, 2^64 - 1")
 for b, answer in [(0, (3, 0, 0)), (TOP - 1, (3, 0, 0)), (TOP, (3, 0, 0)), (TOP + 1, (4, 7)), (2 * TOP, (4, 7)), (2**64 - 1, (4, 7))]:
     add(size() + gap() + budget(b) + END, answer)
-for command, name, most in [(4, "pair", 15), (5, "single", 7)]:
+for command, name, largest in [(4, "pair", 15), (5, "single", 7)]:
     group(name + ", noise: 0, 1, 65535; gain: the same")
     for at, field in [(17, "noise"), (19, "gain")]:
         add(head() + tone(command, 1, **{field: 0}) + END, (4, at))
         add(head() + tone(command, 1, **{field: 1}) + END, (3, 1, 0))
         add(head() + tone(command, 1, **{field: 65535}) + END, (3, 1, 0))
-    group(name + ", cap: 0, %d, %d, 255; mask: 0, 2^47, 2^47 + 1, 2^64 - 1" % (most, most + 1))
-    for cap, answer in [(0, (3, 1, 0)), (most, (3, 1, 0)), (most + 1, (4, 21)), (255, (4, 21))]:
+    group(name + ", cap: 0, %d, %d, 255; mask: 0, 2^47, 2^47 + 1, 2^64 - 1" % (largest, largest + 1))
+    for cap, answer in [(0, (3, 1, 0)), (largest, (3, 1, 0)), (largest + 1, (4, 21)), (255, (4, 21))]:
         add(head() + tone(command, 1, cap=cap) + END, answer)
     for mask, answer in [(0, (3, 1, 0)), (TOP, (3, 1, 0)), (TOP + 1, (4, 22)), (2**64 - 1, (4, 22))]:
         add(head() + tone(command, 1, mask=mask) + END, answer)
@@ -265,9 +321,295 @@ sheet += b"".join(silence(n % 8, 1 << n // 8 * 7 % 32) for n in range((4096 - 16
 assert len(sheet) == 4096
 add(sheet, (256, 80, 256))
 
+# The loadings. `short` below each is the same call with one byte too few: it shows refusal 8 before 9, 10 and 11.
+
+
+def line(n, b, *commands):
+    return head(n, b) + b"".join(commands) + END
+
+
+def at_budget(b, sheet):
+    """A sheet with another budget."""
+    return sheet[:6] + budget(b) + sheet[15:]
+
+
+def ends(sheet):
+    """The powers that the adding run of a sheet passes through, up to the full table."""
+    tones = model.loading_of(at_budget(TOP, sheet))
+    return [tones.total(tones.adding(bits)) for bits in range(1, sum(tones.limits) + 1)]
+
+
+sample = model.sample
+LARGEST = 2**32 - 1
+
+group("document 01: most bits of the sample line at 39, 38, 50, 51, 2, 3, 170, 171")
+for b, bits in [(39, [3, 2, 1]), (38, [2, 2, 1]), (50, [3, 2, 1]), (51, [3, 2, 2]), (2, [0, 0, 0]), (3, [1, 0, 0]), (170, [5, 2, 2]),
+                (171, [5, 2, 3])]:
+    most(sample(b), bits)
+group("document 01: target 6 at 39 and at 38; target 11 at 39, 171, 2^47; target 0")
+target(6, sample(39), [3, 2, 1])
+target(6, sample(38), (11, 0))
+for b in (39, 171, TOP):
+    target(11, sample(b), (11, 0))
+target(0, sample(39), [0, 0, 0])
+group("document 01: re-fit from 0, 2, 3 at 39; its three steps, and a fourth that is finished")
+refit([0, 2, 3], sample(39), ([3, 2, 1], 3))
+step([0, 2, 3], sample(39), ([1, 2, 2], 1))
+step([1, 2, 2], sample(39), ([2, 2, 1], 1))
+step([2, 2, 1], sample(39), ([3, 2, 1], 1))
+step([3, 2, 1], sample(39), ([3, 2, 1], 0))
+group("document 01: the same at 38, where 1, 2, 2 fits and is not the end")
+refit([0, 2, 3], sample(38), ([2, 2, 1], 2))
+step([1, 2, 2], sample(38), ([2, 2, 1], 1))
+step([2, 2, 1], sample(38), ([2, 2, 1], 0))
+group("document 01: cost at gap 257, noise 1, gain 1; at 256, 7, 2; the least and the largest cost; both kinds")
+for g, noise, gain, cost in [(257, 1, 1, 2), (256, 7, 2, 4), (256, 1, 65535, 1), (65535, 65535, 1, 16776705)]:
+    for kind, power in [(4, cost), (5, 3 * cost)]:
+        sheet = size(1) + gap(g) + budget(TOP) + tone(kind, 0, noise, gain, 1, TOP) + END
+        assert model.loading_of(sheet).power(0, 1) == power
+        most(sheet, [1])
+group("document 01: the limit of a pair at cost 3 by masks 2, 3, 8, 9; of a single at cost 1 by masks 2, 3, 14, 15")
+for mask, bits in [(2, 0), (3, 1), (8, 1), (9, 2)]:
+    most(line(1, TOP, pair(0, 3, 1, 15, mask)), [bits])
+for mask, bits in [(2, 0), (3, 1), (14, 1), (15, 2)]:
+    most(line(1, TOP, single(0, 1, 1, 7, mask)), [bits])
+group("caps 0, 1 and the largest under a mask of 2^47; mask 0")
+for kind, largest in [(4, 15), (5, 7)]:
+    for cap in (0, 1, largest):
+        most(line(1, TOP, tone(kind, 0, 1, 1, cap, TOP)), [cap])
+    most(line(1, TOP, tone(kind, 0, 1, 1, largest, 0)), [0])
+
+group("budgets at each end of the sample line's run, and one below; 0 and 2^47")
+assert ends(sample(0)) == [3, 6, 11, 17, 27, 39, 51, 75, 123, 171]
+for b in ends(sample(0)):
+    for budgeted in (b - 1, b):
+        most(sample(budgeted))
+most(sample(0), [0, 0, 0])
+most(sample(TOP), [5, 2, 3])
+group("the same for a line with ties, a silenced tone and one not described; the re-fit from its full table")
+tied = line(5, 0, single(0, 2, 1, 3, 200), pair(1, 6, 1, 4, 200), pair(2, 1, 1, 4, 200), silence(0, 4), pair(4, 3, 1, 5, 200))
+assert model.loading_of(tied).limits == [3, 4, 0, 0, 5]
+for b in ends(tied):
+    for budgeted in (b - 1, b):
+        bits = most(at_budget(budgeted, tied))
+        refit([3, 4, 0, 0, 5], at_budget(budgeted, tied), (bits, 12 - sum(bits)))
+
+group("ties: three pairs of cost 3 at 3, 6, 9, 14, 15, 21; three singles of cost 1 at 3, 6, 9, 20, 21")
+pairs = [pair(n, 3, 1, 15, 1000) for n in range(3)]
+for b, bits in [(3, [1, 0, 0]), (6, [1, 1, 0]), (9, [1, 1, 1]), (14, [1, 1, 1]), (15, [2, 1, 1]), (21, [2, 2, 1])]:
+    most(line(3, b, *pairs), bits)
+for b, bits in [(3, [1, 0, 0]), (6, [1, 1, 0]), (9, [1, 1, 1]), (20, [1, 1, 1]), (21, [2, 1, 1])]:
+    most(line(3, b, *(single(n, 1, 1, 7, 1000) for n in range(3))), bits)
+group("ties: a pair of cost 3 and a single of cost 1 at 3, 6, 24, in both orders, described in both orders")
+for b, first, second in [(3, [1, 0], [1, 0]), (6, [1, 1], [1, 1]), (24, [3, 1], [2, 2])]:
+    most(line(2, b, pair(0, 3), single(1, 1)), first)
+    most(line(2, b, single(1, 1), pair(0, 3)), first)
+    most(line(2, b, single(0, 1), pair(1, 3)), second)
+group("ties: pairs of costs 1, 2, 4 at 3, 5, 9, 13, 17: equal steps at different bits; the same with 4, 2, 1")
+for b, first, second in [(3, [2, 0, 0], [0, 1, 1]), (5, [2, 1, 0], [0, 1, 2]), (9, [3, 1, 0], [1, 1, 2]), (13, [3, 2, 0], [1, 2, 2]),
+                         (17, [3, 2, 1], [1, 2, 3])]:
+    most(line(3, b, *(pair(n, 1 << n) for n in range(3))), first)
+    most(line(3, b, *(pair(n, 4 >> n) for n in range(3))), second)
+group("ties in a re-fit: an exchange to a lower tone of equal size is a move, one to a higher is none")
+for b, start, bits, moves in [(3, [0, 0, 1], [1, 0, 0], 1), (3, [0, 1, 0], [1, 0, 0], 1), (3, [1, 0, 0], [1, 0, 0], 0),
+                              (6, [0, 1, 1], [1, 1, 0], 1), (6, [1, 0, 1], [1, 1, 0], 1), (6, [0, 0, 2], [1, 1, 0], 2)]:
+    refit(start, line(3, b, *pairs), (bits, moves))
+step([0, 0, 2], line(3, 6, *pairs), ([1, 0, 1], 1))
+step([0, 1, 1], line(3, 3, *pairs), ([1, 1, 0], 1))
+step([1, 1, 0], line(3, 3, *pairs), ([1, 0, 0], 1))
+group("ties in a re-fit of both kinds: single 0 of cost 1, pair 1 of cost 3")
+refit([0, 3], line(2, 24, single(0, 1), pair(1, 3)), ([2, 2], 2))
+refit([1, 3], line(2, 24, single(0, 1), pair(1, 3)), ([2, 2], 1))
+refit([2, 1], line(2, 24, pair(0, 3), single(1, 1)))
+
+group("silenced tones of the sample line: 1 before its description, 1 after it, 0 and 2, all")
+described = [sample(0)[15 + 15 * n:30 + 15 * n] for n in range(3)]
+most(line(3, 171, silence(0, 2), *described), [5, 0, 3])
+most(line(3, 171, *described, silence(0, 2)), [5, 0, 3])
+most(line(3, 39, *described[:1], silence(0, 5), *described[1:]), [0, 2, 0])
+most(line(3, TOP, *described, silence(0, 7)), [0, 0, 0])
+target(0, line(3, TOP, *described, silence(0, 7)), [0, 0, 0])
+target(1, line(3, TOP, *described, silence(0, 7)), (11, 0))
+refit([0, 0, 0], line(3, TOP, *described, silence(0, 7)), ([0, 0, 0], 0))
+step([0, 0, 0], line(3, TOP, silence(0, 7)), ([0, 0, 0], 0))
+refit([2, 0, 3], line(3, 51, silence(0, 2), *described))
+group("tones not described: all, 1, 0 and 2")
+most(line(3, TOP), [0, 0, 0])
+target(1, line(3, TOP), (11, 0))
+refit([0, 0, 0], line(3, 0), ([0, 0, 0], 0))
+most(line(3, 171, described[2], described[0]), [5, 0, 3])
+target(2, line(3, 15, described[1]), [0, 2, 0])
+target(2, line(3, 14, described[1]), (11, 0))
+refit([0, 2, 0], line(3, 14, described[1]), ([0, 1, 0], 1))
+
+group("N 1: pair, single, silenced, not described")
+for b, bits in [(2, 0), (3, 1), (92, 4), (93, 5), (94, 5)]:
+    most(line(1, b, pair(0, 3, 1, 5, 100)), [bits])
+most(line(1, 62, single(0, 1, 1, 3, 100)), [2])
+most(line(1, 63, single(0, 1, 1, 3, 100)), [3])
+most(line(1, TOP, pair(0), silence(0, 1)), [0])
+most(line(1, TOP), [0])
+refit([5], line(1, 10, pair(0, 3, 1, 5, 100)), ([2], 3))
+step([5], line(1, 10, pair(0, 3, 1, 5, 100)), ([4], 1))
+step([0], line(1, 10, pair(0, 3, 1, 5, 100)), ([1], 1))
+group("N 32 and 33: the longest table that is printed by tones, and one more; N 256 with tones 0, 31, 32, 255 alone")
+for n in (32, 33):
+    most(line(n, 40, pair(0), single(n - 1, 1), pair(5, 1)))
+four = [pair(255, 1, 1, 15, TOP), single(32, 1, 1, 7, TOP), pair(31, 2, 1, 15, TOP), single(0, 2, 1, 7, TOP)]
+most(line(256, 200, *four))
+most(line(256, TOP, *four))
+most(line(256, TOP), [0] * 256)
+refit([0] * 255 + [15], line(256, 200, *four))
+
+group("targets of the sample line at 171, each from 0 to 10; 11; 2^32 - 1")
+for bits in range(11):
+    target(bits, sample(171))
+target(11, sample(171), (11, 0))
+target(LARGEST, sample(171), (11, 0))
+target(LARGEST, sample(TOP), (11, 0))
+group("targets equal to the most bits, and one more, at 0, 2, 3, 38, 50, 170, 2^47")
+for b in (0, 2, 3, 38, 50, 170, TOP):
+    bits = most(sample(b))
+    target(sum(bits), sample(b), bits)
+    target(sum(bits) + 1, sample(b), (11, 0))
+
+group("re-fit of the full sample line at 171, 170, 39, 2, 0: removing")
+for b, bits in [(171, [5, 2, 3]), (170, [5, 2, 2]), (39, [3, 2, 1]), (2, [0, 0, 0]), (0, [0, 0, 0])]:
+    refit([5, 2, 3], sample(b), (bits, 10 - sum(bits)))
+step([5, 2, 3], sample(171), ([5, 2, 3], 0))
+step([5, 2, 3], sample(170), ([5, 2, 2], 1))
+group("re-fit of the sample line from no bits: adding")
+for b in (2, 3, 39, TOP):
+    bits = most(sample(b))
+    refit([0, 0, 0], sample(b), (bits, sum(bits)))
+step([0, 0, 0], sample(2), ([0, 0, 0], 0))
+step([0, 0, 0], sample(3), ([1, 0, 0], 1))
+group("re-fit from the table that it ends in: no move, and its step is finished")
+for b, bits in [(2, [0, 0, 0]), (38, [2, 2, 1]), (50, [3, 2, 1]), (123, [5, 2, 2]), (171, [5, 2, 3])]:
+    refit(bits, sample(b), (bits, 0))
+    step(bits, sample(b), (bits, 0))
+group("starts above the budget, with and without an exchange first")
+for start, moves in [([5, 0, 0], 6), ([0, 0, 3], 3), ([0, 2, 2], 4), ([4, 2, 2], 6), ([5, 2, 0], 7)]:
+    refit(start, sample(10), ([1, 0, 1], moves))
+    step(start, sample(10))
+
+group("9: a start of N - 1, N + 1, no bytes; of 255 and 257 for N 256")
+for start in ([0, 2], [0, 2, 3, 0], []):
+    refit(start, sample(39), (9, 0))
+    step(start, sample(39), (9, 0))
+refit([0] * 255, line(256, TOP), (9, 0))
+refit([0] * 257, line(256, TOP), (9, 0))
+refit([0] * 256, line(256, TOP), ([0] * 256, 0))
+group("10: a start above a limit, at the first such tone")
+for start, place in [([6, 0, 0], 0), ([5, 3, 4], 1), ([5, 2, 4], 2), ([0, 0, 255], 2), ([6, 3, 4], 0)]:
+    refit(start, sample(TOP), (10, place))
+    step(start, sample(TOP), (10, place))
+group("10: one bit on a silenced tone, on one not described, on the last of 256")
+refit([0, 1, 0], line(3, 171, *described, silence(0, 2)), (10, 1))
+step([0, 1, 0], line(3, 171, silence(0, 2), *described), (10, 1))
+refit([0, 0, 1], line(3, 171, *described[:2]), (10, 2))
+refit([0, 1, 1], line(3, 171, described[1], silence(0, 4)), (10, 2))
+refit([0] * 255 + [1], line(256, TOP), (10, 255))
+step([0] * 255 + [1], line(256, TOP, pair(255), silence(7, 1 << 31)), (10, 255))
+group("order: 9 before 10")
+for start in ([255], [255] * 4, [6, 3]):
+    refit(start, sample(39), (9, 0))
+step([255] * 2, sample(39), (9, 0))
+group("order: a damaged sheet before all, here with no room too")
+for sheet, answer in [(sample(39)[:-1], (2, 60)), (sample(39) + END, (7, 61)), (b"", (2, 0)), (at_budget(TOP + 1, sample(0)), (4, 7)),
+                      (line(3, 39, pair(1), pair(1)), (6, 31)), (b"\xff" * 4097, (1, 0))]:
+    most(sheet, answer)
+    target(LARGEST, sheet, answer)
+    refit([255], sheet, answer)
+    step([], sheet, answer)
+
+# Lines of 256 tones, written with a running tone number.
+WIDE = "000080 00*5"
+
+
+def wide(b, body, g=256):
+    return "010100 %s %s %s 07" % (hexed(gap(g), ""), hexed(budget(b), ""), body)
+
+
+ALL_PAIRS = "(04 ++ 0001 0001 0f %s)*256" % WIDE
+ALL_SINGLES = "(05 ++ 0001 0001 07 %s)*256" % WIDE
+DEAREST_PAIRS = "(04 ++ ffff 0001 0f %s)*256" % WIDE
+DEAREST_SINGLES = "(05 ++ ffff 0001 07 %s)*256" % WIDE
+BY_TURNS = "(04 ++ 01== 0020 0f %s 05 ++ 01== 000a 07 %s)*128" % (WIDE, WIDE)
+HALVES = "(05 ++ 01== 0007 07 %s)*128 (04 ++ 01== 0030 0f %s)*128" % (WIDE, WIDE)
+group("256 pairs of cost 1, cap 15, mask 2^47: at 2^47, at the full table's power and one below, at 1,000,000, at 255")
+for b in (TOP, 256 * 32767, 256 * 32767 - 1, 1000000, 255):
+    most(wide(b, ALL_PAIRS))
+group("256 singles of cost 1, cap 7, mask 2^47: the same")
+for b in (TOP, 256 * 16383, 256 * 16383 - 1, 1000000, 767):
+    most(wide(b, ALL_SINGLES))
+group("256 pairs, and 256 singles, of the largest cost, 16,776,705: at 2^47, at the full table's power and one below, and half of it")
+for body, full in [(DEAREST_PAIRS, 256 * 32767 * 16776705), (DEAREST_SINGLES, 256 * 16383 * 16776705)]:
+    assert full <= TOP
+    for b in (TOP, full, full - 1, full // 2):
+        most(wide(b, body, 65535))
+group("256 tones, pairs and singles by turns, costs that rise: at 2^47, 50,000,000, 3,000,000, 12,345")
+for b in (TOP, 50000000, 3000000, 12345):
+    most(wide(b, BY_TURNS))
+group("256 tones, 128 singles then 128 pairs: at 2^47, 3,000,000; targets 1,000, the most bits, one more, 2^32 - 1")
+most(wide(TOP, HALVES))
+bits = most(wide(3000000, HALVES))
+target(1000, wide(3000000, HALVES))
+target(sum(bits), wide(3000000, HALVES), bits)
+target(sum(bits) + 1, wide(3000000, HALVES), (11, 0))
+target(LARGEST, wide(3000000, HALVES), (11, 0))
+target(256 * 15, wide(TOP, ALL_PAIRS), [15] * 256)
+target(256 * 15 + 1, wide(TOP, ALL_PAIRS), (11, 0))
+group("256 tones: re-fits from the full table, from no bits, from others; as many moves as the limits add up to at budget 0")
+refit([15] * 256, wide(0, ALL_PAIRS), ([0] * 256, 3840))
+refit([15] * 256, wide(1000000, ALL_PAIRS))
+refit([0] * 256, wide(TOP, ALL_PAIRS), ([15] * 256, 3840))
+refit([0] * 128 + [15] * 128, wide(1000000, ALL_PAIRS))
+refit([0] * 128 + [7] * 128, wide(1000000, ALL_SINGLES))
+refit([15] * 256, wide(256 * 32767 * 16776705 - 1, DEAREST_PAIRS, 65535), ([15] * 255 + [14], 1))
+refit("(0f 07)*128", wide(3000000, BY_TURNS))
+refit("(00 07)*128", wide(3000000, BY_TURNS))
+refit("(0f 00)*128", wide(3000000, BY_TURNS))
+refit("(07 00)*64 (03 0f)*64", wide(3000000, HALVES))
+group("256 tones: steps from a full table above the budget, from no bits, from one that exchanges, from the end")
+step([15] * 256, wide(0, ALL_PAIRS), ([15] * 255 + [14], 1))
+step([0] * 256, wide(TOP, ALL_PAIRS), ([1] + [0] * 255, 1))
+step([0] * 128 + [15] * 128, wide(TOP, ALL_PAIRS), ([1] + [0] * 127 + [15] * 127 + [14], 1))
+step([15] * 256, wide(TOP, ALL_PAIRS), ([15] * 256, 0))
+step("(00 07)*128", wide(3000000, BY_TURNS))
+group("256 tones: 10 at the first tone above its limit")
+refit([15] * 256, wide(TOP, BY_TURNS), (10, 1))
+refit([15] * 255 + [16], wide(TOP, ALL_PAIRS), (10, 255))
+group("256 tones, 110 of them described, in mixed order among silences")
+commands = []
+for number in dice.sample(range(256), 110):
+    kind = dice.choice((4, 5))
+    commands.append(tone(kind, number, dice.randint(1, 65535), dice.randint(1, 999), dice.randint(0, 15 if kind == 4 else 7),
+                         dice.randint(0, 2**dice.randint(10, 30))))
+commands += [silence(word, dice.getrandbits(32) & dice.getrandbits(32)) for word in range(8)]
+dice.shuffle(commands)
+sheet = line(256, 40000000, *commands)
+most(sheet)
+refit([dice.randint(0, limit) for limit in model.loading_of(sheet).limits], sheet)
+
+group("a dozen lines of up to six tones: re-fit, step, target")
+for _ in range(12):
+    n = dice.randint(1, 6)
+    commands = [tone(kind, number, dice.randint(1, 9), dice.randint(1, 3), dice.randint(0, 15 if kind == 4 else 7), dice.randint(0, 500))
+                for number in dice.sample(range(n), dice.randint(1, n)) for kind in [dice.choice((4, 5))]]
+    if dice.randint(0, 2) == 0:
+        commands.insert(dice.randint(0, len(commands)), silence(0, dice.getrandbits(n) & dice.getrandbits(n)))
+    sheet = line(n, dice.randint(0, 300), *commands)
+    limits = model.loading_of(sheet).limits
+    start = [dice.randint(0, limit) for limit in limits]
+    bits, _ = refit(start, sheet)
+    step(start, sheet)
+    target(max(0, sum(bits) - dice.randint(-1, 3)), sheet)
+
 text = "".join(r + "\n" for r in ROWS)
-assert len(text) < 60000, len(text)
+# The test program's buffer for its text (`text_buffer` of crates/sampletext).
+assert len(text) <= 131072, len(text)
 for name, what in [("stdin", text), ("stdout", model.expected(text))]:
     with open(sys.argv[1] + "/" + name, "w") as f:
         f.write(what)
-print(COUNT, "sheets,", len(text), "bytes")
+print(SHEETS, "sheets,", LOADINGS, "loadings,", len(text), "bytes")
