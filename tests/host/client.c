@@ -1,0 +1,185 @@
+/* A client in C: the sample line of document 01 by all six calls, and refusals. */
+#include "toqhaymi.h"
+
+#include <inttypes.h>
+#include <stdio.h>
+#include <string.h>
+
+#define TONES 3
+#define TABLE_BYTES (TONES * TOQHAYMI_BYTES_A_TONE)
+#define UNTOUCHED 0xee
+
+/* Gap 256, budget 39; tones 0 and 1 are pairs, tone 2 is single. */
+static const uint8_t sheet[61] = {
+    0x01, 0, 3, 0x02, 1, 0, 0x03, 0, 0, 0, 0, 0, 0, 0, 39,
+    0x04, 0, 0, 3, 0, 1, 15, 0, 0, 0, 0, 0, 0, 0, 100,
+    0x04, 1, 0, 5, 0, 1, 2, 0, 0, 0, 0, 0, 0, 0, 100,
+    0x05, 2, 0, 1, 0, 1, 7, 0, 0, 0, 0, 0, 0, 0, 100,
+    0x07
+};
+
+/* Lent to each call anew; a few bytes longer than need be. */
+static uint8_t table[TABLE_BYTES + 4];
+static uint8_t tidy[sizeof sheet + 4];
+static uint8_t answer[TOQHAYMI_ANSWER_BYTES + 4];
+static int wrong = 0;
+
+static void lend(void)
+{
+    memset(table, UNTOUCHED, sizeof table);
+    memset(tidy, UNTOUCHED, sizeof tidy);
+    memset(answer, UNTOUCHED, sizeof answer);
+}
+
+static void expect(const char *what, uint64_t found, uint64_t due)
+{
+    if (found != due) {
+        printf("WRONG: %s is %" PRIu64 ", not %" PRIu64 "\n", what, found, due);
+        wrong = 1;
+    }
+}
+
+static void expect_untouched(const char *what, const uint8_t *bytes, size_t from, size_t to)
+{
+    size_t i;
+    for (i = from; i < to; i++)
+        expect(what, bytes[i], UNTOUCHED);
+}
+
+/* An accepted call: its answers, and no byte after them. */
+static void expect_answers(const char *call, uint64_t returned, size_t count, const uint64_t *due)
+{
+    size_t i;
+    printf("%-12s", call);
+    expect("returned", returned, TOQHAYMI_ACCEPTED);
+    for (i = 0; i < count; i++) {
+        printf(" %" PRIu64, TOQHAYMI_VALUE(answer + 8 * i));
+        expect("an answer", TOQHAYMI_VALUE(answer + 8 * i), due[i]);
+    }
+    expect_untouched("a byte after the answers", answer, 8 * count, sizeof answer);
+    printf("\n");
+}
+
+static void expect_table(const uint8_t *bits, const uint64_t *powers)
+{
+    int t;
+    for (t = 0; t < TONES; t++) {
+        const uint8_t *tone = table + TOQHAYMI_BYTES_A_TONE * t;
+        printf("  tone %d: %u bits, power %" PRIu64 "\n", t, tone[0], TOQHAYMI_VALUE(tone + 1));
+        expect("bits", tone[0], bits[t]);
+        expect("power", TOQHAYMI_VALUE(tone + 1), powers[t]);
+    }
+    expect_untouched("a byte after the table", table, TABLE_BYTES, sizeof table);
+}
+
+/* A refused call: number and place, and no byte touched. */
+static void expect_refusal(const char *call, uint64_t returned, uint32_t number, uint32_t place)
+{
+    printf("%-12s refused: number %" PRIu32 ", place %" PRIu32 "\n", call,
+           TOQHAYMI_NUMBER(returned), TOQHAYMI_PLACE(returned));
+    expect("refusal number", TOQHAYMI_NUMBER(returned), number);
+    expect("place", TOQHAYMI_PLACE(returned), place);
+    expect_untouched("a byte of a refused call's table", table, 0, sizeof table);
+    expect_untouched("a byte of a refused call's tidy sheet", tidy, 0, sizeof tidy);
+    expect_untouched("a byte of a refused call's answer", answer, 0, sizeof answer);
+}
+
+static void check_and_load(void)
+{
+    static const uint64_t counts[] = {3, 3, 0}, totals[] = {6, 39};
+    static const uint8_t bits[] = {3, 2, 1};
+    static const uint64_t powers[] = {21, 15, 3};
+
+    lend();
+    expect_answers("check", toqhaymi_check(sheet, sizeof sheet, answer, sizeof answer), 3, counts);
+    lend();
+    expect_answers("load_most",
+                   toqhaymi_load_most(sheet, sizeof sheet, table, sizeof table,
+                                      answer, sizeof answer), 2, totals);
+    expect_table(bits, powers);
+    lend();
+    expect_answers("load_target",
+                   toqhaymi_load_target(sheet, sizeof sheet, 6, table, sizeof table,
+                                        answer, sizeof answer), 2, totals);
+    expect_table(bits, powers);
+}
+
+/* The re-fit from 0, 2, 3, in one call and then step by step. */
+static void refit(void)
+{
+    static const uint8_t tables[5][TONES] = {{0, 2, 3}, {1, 2, 2}, {2, 2, 1}, {3, 2, 1}, {3, 2, 1}};
+    static const uint64_t powers[5][TONES] = {
+        {0, 15, 63}, {3, 15, 15}, {9, 15, 3}, {21, 15, 3}, {21, 15, 3}
+    };
+    static const uint64_t run[] = {6, 39, 3};
+    static const uint64_t steps[5][3] = {{0, 0, 0}, {5, 33, 1}, {5, 27, 1}, {6, 39, 1}, {6, 39, 0}};
+    int i;
+
+    lend();
+    expect_answers("refit",
+                   toqhaymi_refit(sheet, sizeof sheet, tables[0], TONES, table, sizeof table,
+                                  answer, sizeof answer), 3, run);
+    expect_table(tables[3], powers[3]);
+    for (i = 1; i < 5; i++) {
+        lend();
+        expect_answers("refit_step",
+                       toqhaymi_refit_step(sheet, sizeof sheet, tables[i - 1], TONES,
+                                           table, sizeof table, answer, sizeof answer),
+                       3, steps[i]);
+        expect_table(tables[i], powers[i]);
+    }
+}
+
+/* The sample is tidy; with its tones in falling order it becomes so again. */
+static void make_tidy(void)
+{
+    static const uint64_t length[] = {sizeof sheet};
+    uint8_t untidy[sizeof sheet];
+    int t;
+
+    memcpy(untidy, sheet, sizeof sheet);
+    for (t = 0; t < TONES; t++)
+        memcpy(untidy + 15 + 15 * t, sheet + 45 - 15 * t, 15);
+    lend();
+    expect_answers("tidy",
+                   toqhaymi_tidy(untidy, sizeof untidy, tidy, sizeof tidy, answer, sizeof answer),
+                   1, length);
+    expect("the tidy sheet's difference", memcmp(tidy, sheet, sizeof sheet) != 0, 0);
+    expect_untouched("a byte after the tidy sheet", tidy, sizeof sheet, sizeof tidy);
+}
+
+static void refusals(void)
+{
+    static const uint8_t above[TONES] = {0, 3, 0};
+    uint8_t damaged[sizeof sheet];
+
+    memcpy(damaged, sheet, sizeof sheet);
+    damaged[15] = 0x08;
+    lend();
+    expect_refusal("check", toqhaymi_check(damaged, sizeof damaged, answer, sizeof answer),
+                   TOQHAYMI_COMMAND_NOT_ALLOWED, 15);
+    expect_refusal("check", toqhaymi_check(sheet, 0, answer, sizeof answer),
+                   TOQHAYMI_SHEET_ENDS_EARLY, 0);
+    expect_refusal("load_most",
+                   toqhaymi_load_most(sheet, sizeof sheet, table, TABLE_BYTES - 1,
+                                      answer, sizeof answer),
+                   TOQHAYMI_DESTINATION_TOO_SMALL, 0);
+    expect_refusal("load_target",
+                   toqhaymi_load_target(sheet, sizeof sheet, 11, table, sizeof table,
+                                        answer, sizeof answer),
+                   TOQHAYMI_TARGET_NOT_CARRIED, 0);
+    expect_refusal("refit",
+                   toqhaymi_refit(sheet, sizeof sheet, above, TONES, table, sizeof table,
+                                  answer, sizeof answer),
+                   TOQHAYMI_START_ABOVE_LIMIT, 1);
+}
+
+int main(void)
+{
+    check_and_load();
+    refit();
+    make_tidy();
+    refusals();
+    printf(wrong ? "some answers are wrong\n" : "all answers are right\n");
+    return wrong;
+}

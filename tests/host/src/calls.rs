@@ -1,0 +1,251 @@
+//! The six calls of the archive, each buffer lent with canary bytes round it.
+
+use crate::inputs::Input;
+use crate::paper;
+
+mod archive {
+    extern "C" {
+        pub fn toqhaymi_check(
+            sheet: *const u8,
+            sheet_length: usize,
+            answer: *mut u8,
+            answer_length: usize,
+        ) -> u64;
+        pub fn toqhaymi_load_most(
+            sheet: *const u8,
+            sheet_length: usize,
+            table: *mut u8,
+            table_length: usize,
+            answer: *mut u8,
+            answer_length: usize,
+        ) -> u64;
+        pub fn toqhaymi_load_target(
+            sheet: *const u8,
+            sheet_length: usize,
+            target: u32,
+            table: *mut u8,
+            table_length: usize,
+            answer: *mut u8,
+            answer_length: usize,
+        ) -> u64;
+        pub fn toqhaymi_refit(
+            sheet: *const u8,
+            sheet_length: usize,
+            start: *const u8,
+            start_length: usize,
+            table: *mut u8,
+            table_length: usize,
+            answer: *mut u8,
+            answer_length: usize,
+        ) -> u64;
+        pub fn toqhaymi_refit_step(
+            sheet: *const u8,
+            sheet_length: usize,
+            start: *const u8,
+            start_length: usize,
+            table: *mut u8,
+            table_length: usize,
+            answer: *mut u8,
+            answer_length: usize,
+        ) -> u64;
+        pub fn toqhaymi_tidy(
+            sheet: *const u8,
+            sheet_length: usize,
+            tidy: *mut u8,
+            tidy_length: usize,
+            answer: *mut u8,
+            answer_length: usize,
+        ) -> u64;
+    }
+}
+
+/// A buffer as C sees it.
+pub type Buffer = (*mut u8, usize);
+
+#[derive(Clone, Copy, Debug, PartialEq, Eq)]
+pub enum Call {
+    Check,
+    LoadMost,
+    LoadTarget,
+    Refit,
+    RefitStep,
+    Tidy,
+}
+
+impl Call {
+    pub const ALL: [Call; 6] =
+        [Call::Check, Call::LoadMost, Call::LoadTarget, Call::Refit, Call::RefitStep, Call::Tidy];
+
+    pub fn name(self) -> &'static str {
+        match self {
+            Call::Check => "check",
+            Call::LoadMost => "load_most",
+            Call::LoadTarget => "load_target",
+            Call::Refit => "refit",
+            Call::RefitStep => "refit_step",
+            Call::Tidy => "tidy",
+        }
+    }
+
+    /// The refusals that the call can give.
+    pub fn refusals(self) -> &'static [u64] {
+        match self {
+            Call::Check | Call::LoadMost | Call::Tidy => &[1, 2, 3, 4, 5, 6, 7, 8],
+            Call::LoadTarget => &[1, 2, 3, 4, 5, 6, 7, 8, 11],
+            Call::Refit | Call::RefitStep => &[1, 2, 3, 4, 5, 6, 7, 8, 9, 10],
+        }
+    }
+
+    /// What the destination holds before the call; a check has none.
+    pub fn destination(self, input: &Input) -> &[u8] {
+        match self {
+            Call::Check => &[],
+            Call::Tidy => &input.tidy,
+            _ => &input.table,
+        }
+    }
+
+    /// Calls the archive. The buffers must be distinct and as long as they say.
+    pub unsafe fn ours(
+        self,
+        sheet: Buffer,
+        start: Buffer,
+        target: u32,
+        destination: Buffer,
+        answer: Buffer,
+    ) -> u64 {
+        use archive::*;
+        let ((s, s_len), (b, b_len)) = (sheet, start);
+        let ((d, d_len), (a, a_len)) = (destination, answer);
+        match self {
+            Call::Check => toqhaymi_check(s, s_len, a, a_len),
+            Call::LoadMost => toqhaymi_load_most(s, s_len, d, d_len, a, a_len),
+            Call::LoadTarget => toqhaymi_load_target(s, s_len, target, d, d_len, a, a_len),
+            Call::Refit => toqhaymi_refit(s, s_len, b, b_len, d, d_len, a, a_len),
+            Call::RefitStep => toqhaymi_refit_step(s, s_len, b, b_len, d, d_len, a, a_len),
+            Call::Tidy => toqhaymi_tidy(s, s_len, d, d_len, a, a_len),
+        }
+    }
+
+    /// The archive's function and its arguments, as words in order.
+    pub fn entry(self, buffers: [Buffer; 4], target: u32) -> (*const (), [usize; 8]) {
+        use archive::*;
+        let [(s, s_len), (b, b_len), (d, d_len), (a, a_len)] = buffers;
+        let (s, b, d, a) = (s as usize, b as usize, d as usize, a as usize);
+        let target = target as usize;
+        match self {
+            Call::Check => (toqhaymi_check as *const (), [s, s_len, a, a_len, 0, 0, 0, 0]),
+            Call::LoadMost => {
+                (toqhaymi_load_most as *const (), [s, s_len, d, d_len, a, a_len, 0, 0])
+            }
+            Call::LoadTarget => {
+                (toqhaymi_load_target as *const (), [s, s_len, target, d, d_len, a, a_len, 0])
+            }
+            Call::Refit => (toqhaymi_refit as *const (), [s, s_len, b, b_len, d, d_len, a, a_len]),
+            Call::RefitStep => {
+                (toqhaymi_refit_step as *const (), [s, s_len, b, b_len, d, d_len, a, a_len])
+            }
+            Call::Tidy => (toqhaymi_tidy as *const (), [s, s_len, d, d_len, a, a_len, 0, 0]),
+        }
+    }
+
+    /// Calls the independent loader.
+    pub fn papers(
+        self,
+        sheet: &[u8],
+        start: &[u8],
+        target: u32,
+        destination: &mut [u8],
+        answer: &mut [u8],
+    ) -> u64 {
+        match self {
+            Call::Check => paper::check(sheet, answer),
+            Call::LoadMost => paper::load_most(sheet, destination, answer),
+            Call::LoadTarget => paper::load_target(sheet, target, destination, answer),
+            Call::Refit => paper::refit(sheet, start, destination, answer),
+            Call::RefitStep => paper::refit_step(sheet, start, destination, answer),
+            Call::Tidy => paper::tidy(sheet, destination, answer),
+        }
+    }
+}
+
+/// What a call returned and left.
+#[derive(Debug, PartialEq, Eq)]
+pub struct Outcome {
+    pub returned: u64,
+    pub destination: Vec<u8>,
+    pub answer: Vec<u8>,
+}
+
+const CANARY: usize = 64;
+
+/// A buffer with canary bytes before and after it, at any alignment.
+struct Lent {
+    bytes: Vec<u8>,
+    front: usize,
+    length: usize,
+}
+
+fn canary(place: usize) -> u8 {
+    (place as u8).wrapping_mul(37) ^ 0xa5
+}
+
+impl Lent {
+    fn new(content: &[u8]) -> Lent {
+        let (front, length) = (CANARY + content.len() % 8, content.len());
+        let mut bytes: Vec<u8> = (0..front + length + CANARY).map(canary).collect();
+        bytes[front..front + length].copy_from_slice(content);
+        Lent { bytes, front, length }
+    }
+
+    fn lend(&mut self) -> Buffer {
+        (self.bytes[self.front..].as_mut_ptr(), self.length)
+    }
+
+    /// The content, if the canary bytes stand.
+    fn returned(self, name: &str) -> Result<Vec<u8>, String> {
+        let inside = self.front..self.front + self.length;
+        let outside = |place: &usize| !inside.contains(place);
+        match (0..self.bytes.len()).filter(outside).find(|&p| self.bytes[p] != canary(p)) {
+            Some(p) if p < self.front => {
+                Err(format!("byte {} before the {name} was changed", self.front - p))
+            }
+            Some(p) => Err(format!("byte {} after the {name} was changed", p + 1 - inside.end)),
+            None => Ok(self.bytes[inside].to_vec()),
+        }
+    }
+
+    /// The same of a buffer that is only read.
+    fn only_read(self, name: &str, content: &[u8]) -> Result<(), String> {
+        match self.returned(name)?.iter().zip(content).position(|(now, was)| now != was) {
+            Some(place) => Err(format!("byte {place} of the {name} was changed")),
+            None => Ok(()),
+        }
+    }
+}
+
+/// What the archive's call leaves, or which byte it should not have touched.
+pub fn ours(call: Call, input: &Input) -> Result<Outcome, String> {
+    let mut sheet = Lent::new(&input.sheet);
+    let mut start = Lent::new(&input.start);
+    let mut destination = Lent::new(call.destination(input));
+    let mut answer = Lent::new(&input.answer);
+    // SAFETY: four buffers of their own; a byte touched outside them is a canary.
+    let returned = unsafe {
+        call.ours(sheet.lend(), start.lend(), input.target, destination.lend(), answer.lend())
+    };
+    sheet.only_read("sheet", &input.sheet)?;
+    start.only_read("starting table", &input.start)?;
+    let destination =
+        destination.returned(if call == Call::Tidy { "tidy sheet" } else { "table" })?;
+    Ok(Outcome { returned, destination, answer: answer.returned("answer")? })
+}
+
+/// What the independent loader's call leaves.
+pub fn papers(call: Call, input: &Input) -> Outcome {
+    let mut destination = call.destination(input).to_vec();
+    let mut answer = input.answer.clone();
+    let returned =
+        call.papers(&input.sheet, &input.start, input.target, &mut destination, &mut answer);
+    Outcome { returned, destination, answer }
+}

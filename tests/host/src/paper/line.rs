@@ -1,0 +1,161 @@
+//! A tone's cost, power and limit, and the reading of a sheet.
+
+use super::{refuse, Refusal};
+
+pub const TONES: usize = 256;
+pub const LARGEST_SHEET: usize = 4096;
+/// Masks and budgets end here.
+pub const LARGEST_POWER: u64 = 1 << 47;
+
+#[derive(Clone, Copy, Debug, PartialEq, Eq)]
+pub enum Kind {
+    Pair,
+    Single,
+}
+
+/// A described tone.
+#[derive(Clone, Copy, Debug, PartialEq, Eq)]
+pub struct Tone {
+    pub kind: Kind,
+    pub noise: u16,
+    pub gain: u16,
+    pub cap: u8,
+    pub mask: u64,
+}
+
+/// What a sheet says.
+#[derive(Clone, Copy, Debug, PartialEq, Eq)]
+pub struct Line {
+    pub tones: usize,
+    pub gap: u64,
+    pub budget: u64,
+    pub described: [Option<Tone>; TONES],
+    pub silenced: [u32; 8],
+}
+
+// ---- Cost, power and limit of a tone ----
+
+/// The smallest whole number not below gap × noise / (256 × gain).
+pub fn cost(gap: u64, noise: u16, gain: u16) -> u64 {
+    (gap * u64::from(noise)).div_ceil(256 * u64::from(gain))
+}
+
+pub fn power(kind: Kind, cost: u64, bits: u8) -> u64 {
+    match kind {
+        Kind::Pair => cost * ((1 << bits) - 1),
+        Kind::Single => cost * ((1 << (2 * bits)) - 1),
+    }
+}
+
+/// The largest number of bits within cap and mask.
+pub fn limit(tone: &Tone, cost: u64) -> u8 {
+    let mut bits = 0;
+    while bits < tone.cap && power(tone.kind, cost, bits + 1) <= tone.mask {
+        bits += 1;
+    }
+    bits
+}
+
+// ---- Reading a sheet ----
+
+fn number(sheet: &[u8], at: usize, width: usize) -> u64 {
+    let mut number = 0;
+    for byte in &sheet[at..at + width] {
+        number = number << 8 | u64::from(*byte);
+    }
+    number
+}
+
+/// The operand at a place, if it is within its range.
+fn operand(sheet: &[u8], at: usize, width: usize, low: u64, high: u64) -> Result<u64, Refusal> {
+    let operand = number(sheet, at, width);
+    if operand < low || operand > high {
+        return refuse(4, at);
+    }
+    Ok(operand)
+}
+
+/// The command at a place, if it is from first to last and its operands are there.
+fn command(sheet: &[u8], at: usize, first: u8, last: u8) -> Result<u8, Refusal> {
+    const WIDTHS: [usize; 8] = [0, 3, 3, 9, 15, 15, 6, 1];
+    if at >= sheet.len() {
+        return refuse(2, sheet.len());
+    }
+    let command = sheet[at];
+    if command < first || command > last {
+        return refuse(3, at);
+    }
+    if sheet.len() - at < WIDTHS[usize::from(command)] {
+        return refuse(2, sheet.len());
+    }
+    Ok(command)
+}
+
+fn read_tone(line: &mut Line, sheet: &[u8], at: usize, kind: Kind) -> Result<(), Refusal> {
+    let tone = usize::from(sheet[at + 1]);
+    if tone >= line.tones {
+        return refuse(5, at + 1);
+    }
+    if line.described[tone].is_some() {
+        return refuse(6, at + 1);
+    }
+    let most = if kind == Kind::Pair { 15 } else { 7 };
+    line.described[tone] = Some(Tone {
+        kind,
+        noise: operand(sheet, at + 2, 2, 1, 65_535)? as u16,
+        gain: operand(sheet, at + 4, 2, 1, 65_535)? as u16,
+        cap: operand(sheet, at + 6, 1, 0, most)? as u8,
+        mask: operand(sheet, at + 7, 8, 0, LARGEST_POWER)?,
+    });
+    Ok(())
+}
+
+fn read_silence(line: &mut Line, sheet: &[u8], at: usize) -> Result<(), Refusal> {
+    let word = operand(sheet, at + 1, 1, 0, 7)? as usize;
+    let map = number(sheet, at + 2, 4);
+    let on_line = line.tones.saturating_sub(32 * word).min(32);
+    if map >> on_line != 0 {
+        return refuse(5, at + 2);
+    }
+    line.silenced[word] |= map as u32;
+    Ok(())
+}
+
+/// The line of a sheet: refusals 1 to 7.
+pub fn read(sheet: &[u8]) -> Result<Line, Refusal> {
+    if sheet.len() > LARGEST_SHEET {
+        return refuse(1, 0);
+    }
+    command(sheet, 0, 1, 1)?;
+    let tones = operand(sheet, 1, 2, 1, TONES as u64)? as usize;
+    command(sheet, 3, 2, 2)?;
+    let gap = operand(sheet, 4, 2, 256, 65_535)?;
+    command(sheet, 6, 3, 3)?;
+    let budget = operand(sheet, 7, 8, 0, LARGEST_POWER)?;
+    let mut line = Line { tones, gap, budget, described: [None; TONES], silenced: [0; 8] };
+    let mut at = 15;
+    loop {
+        match command(sheet, at, 4, 7)? {
+            4 => read_tone(&mut line, sheet, at, Kind::Pair)?,
+            5 => read_tone(&mut line, sheet, at, Kind::Single)?,
+            6 => read_silence(&mut line, sheet, at)?,
+            _ if at + 1 < sheet.len() => return refuse(7, at + 1),
+            _ => return Ok(line),
+        }
+        at += if sheet[at] == 6 { 6 } else { 15 };
+    }
+}
+
+impl Line {
+    pub fn is_silenced(&self, tone: usize) -> bool {
+        self.silenced[tone / 32] >> (tone % 32) & 1 == 1
+    }
+
+    pub fn count_described(&self) -> u64 {
+        self.described.iter().flatten().count() as u64
+    }
+
+    pub fn count_silenced(&self) -> u64 {
+        self.silenced.iter().map(|map| u64::from(map.count_ones())).sum()
+    }
+}

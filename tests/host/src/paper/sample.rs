@@ -1,0 +1,146 @@
+//! The independent loader on document 01's own cases, and by exhaustion.
+
+use super::line::{cost, limit, read, Kind, Tone, LARGEST_POWER};
+use super::run::Running;
+use super::*;
+use crate::random::Random;
+
+/// The sheet of document 01 at a budget.
+fn sample(budget: u64) -> Vec<u8> {
+    let mut sheet = vec![1, 0, 3, 2, 1, 0, 3];
+    sheet.extend(budget.to_be_bytes());
+    sheet.extend([4, 0, 0, 3, 0, 1, 15, 0, 0, 0, 0, 0, 0, 0, 100]);
+    sheet.extend([4, 1, 0, 5, 0, 1, 2, 0, 0, 0, 0, 0, 0, 0, 100]);
+    sheet.extend([5, 2, 0, 1, 0, 1, 7, 0, 0, 0, 0, 0, 0, 0, 100, 7]);
+    sheet
+}
+
+/// A call's returned number, the table's bits, its powers, and the three answers.
+type Outcome = (u64, [u8; 3], [u64; 3], [u64; 3]);
+
+fn value(bytes: &[u8]) -> u64 {
+    u64::from_be_bytes(bytes[..8].try_into().unwrap())
+}
+
+fn outcome(call: impl Fn(&mut [u8], &mut [u8]) -> u64) -> Outcome {
+    let (mut table, mut answer) = ([0; 27], [0; 24]);
+    let returned = call(&mut table, &mut answer);
+    let bits = [table[0], table[9], table[18]];
+    let powers = [value(&table[1..]), value(&table[10..]), value(&table[19..])];
+    (returned, bits, powers, [value(&answer), value(&answer[8..]), value(&answer[16..])])
+}
+
+fn most(budget: u64) -> Outcome {
+    outcome(|table, answer| load_most(&sample(budget), table, answer))
+}
+
+fn target(budget: u64, target: u32) -> Outcome {
+    outcome(|table, answer| load_target(&sample(budget), target, table, answer))
+}
+
+const REFUSED_11: Outcome = (11 << 32, [0; 3], [0; 3], [0; 3]);
+
+#[test]
+fn limits() {
+    let run = Running::nothing(&read(&sample(0)).unwrap());
+    assert_eq!(run.limit[..3], [5, 2, 3]);
+}
+
+#[test]
+fn most_bits() {
+    assert_eq!(most(39), (0, [3, 2, 1], [21, 15, 3], [6, 39, 0]));
+    assert_eq!(most(38), (0, [2, 2, 1], [9, 15, 3], [5, 27, 0]));
+    assert_eq!(most(50), most(39));
+    assert_eq!(most(51), (0, [3, 2, 2], [21, 15, 15], [7, 51, 0]));
+    assert_eq!(most(2), (0, [0; 3], [0; 3], [0; 3]));
+    assert_eq!(most(3), (0, [1, 0, 0], [3, 0, 0], [1, 3, 0]));
+    assert_eq!(most(170), (0, [5, 2, 2], [93, 15, 15], [9, 123, 0]));
+    assert_eq!(most(171), (0, [5, 2, 3], [93, 15, 63], [10, 171, 0]));
+}
+
+#[test]
+fn set_number_of_bits() {
+    assert_eq!(target(39, 6), most(39));
+    assert_eq!(target(38, 6), REFUSED_11);
+    for budget in [0, 2, 38, 39, 170, 171, 1000, LARGEST_POWER] {
+        assert_eq!(target(budget, 11), REFUSED_11);
+        assert_eq!(target(budget, 0), (0, [0; 3], [0; 3], [0; 3]));
+    }
+}
+
+#[test]
+fn refit_in_three_moves() {
+    let sheet = sample(39);
+    let step = |start: [u8; 3]| outcome(|table, answer| refit_step(&sheet, &start, table, answer));
+    assert_eq!(step([0, 2, 3]), (0, [1, 2, 2], [3, 15, 15], [5, 33, 1]));
+    assert_eq!(step([1, 2, 2]), (0, [2, 2, 1], [9, 15, 3], [5, 27, 1]));
+    assert_eq!(step([2, 2, 1]), (0, [3, 2, 1], [21, 15, 3], [6, 39, 1]));
+    assert_eq!(step([3, 2, 1]), (0, [3, 2, 1], [21, 15, 3], [6, 39, 0]));
+    let run = outcome(|table, answer| refit(&sheet, &[0, 2, 3], table, answer));
+    assert_eq!(run, (0, [3, 2, 1], [21, 15, 3], [6, 39, 3]));
+}
+
+#[test]
+fn exchanges_go_on_within_the_budget() {
+    let run = outcome(|table, answer| refit(&sample(38), &[0, 2, 3], table, answer));
+    assert_eq!(run, (0, [2, 2, 1], [9, 15, 3], [5, 27, 2]));
+}
+
+#[test]
+fn costs_and_limits() {
+    assert_eq!(cost(257, 1, 1), 2);
+    assert_eq!(cost(256, 7, 2), 4);
+    assert_eq!(cost(256, 1, 65_535), 1);
+    assert_eq!(cost(65_535, 65_535, 1), 16_776_705);
+    for (mask, bits) in [(2, 0), (3, 1), (8, 1), (9, 2)] {
+        let tone = Tone { kind: Kind::Pair, noise: 3, gain: 1, cap: 15, mask };
+        assert_eq!(limit(&tone, 3), bits);
+    }
+}
+
+#[test]
+fn bench_program_output() {
+    assert_eq!(printed(&sample(39)), "0 3 21\n1 2 15\n2 1 3\ntotal 6 39\n");
+    assert_eq!(printed(&[]), "refused 2 0\n");
+    assert_eq!(printed(&[1; 4097]), "refused 1 0\n");
+}
+
+/// Every table within the limits: the least power for each number of bits.
+fn least_powers(run: &Running) -> Vec<u64> {
+    let total: usize = run.limit[..run.tones].iter().map(|bits| usize::from(*bits)).sum();
+    let mut least = vec![u64::MAX; total + 1];
+    let mut bits = vec![0; run.tones];
+    loop {
+        let powers = (0..run.tones).map(|t| line::power(run.kind[t], run.cost[t], bits[t]));
+        let sum: usize = bits.iter().map(|bits| usize::from(*bits)).sum();
+        least[sum] = least[sum].min(powers.sum());
+        let Some(tone) = (0..run.tones).find(|&tone| bits[tone] < run.limit[tone]) else {
+            return least;
+        };
+        bits[..tone].fill(0);
+        bits[tone] += 1;
+    }
+}
+
+/// On small lines no table does better, and a re-fit ends where a loading does.
+#[test]
+fn best_of_all_tables() {
+    let mut random = Random::new(8, 0);
+    for index in 0..2_000 {
+        let sheet = crate::sheets::small(7, index);
+        let line = read(&sheet).unwrap();
+        let mut run = Running::nothing(&line);
+        let limits = &run.limit[..line.tones];
+        let start: Vec<u8> =
+            limits.iter().map(|&bits| random.between(0, bits.into()) as u8).collect();
+        let mut refitted = Running::from_start(&line, &start).unwrap();
+        let least = least_powers(&run);
+        while run.add() {
+            assert_eq!(run.total_power, least[run.total_bits as usize]);
+        }
+        let next = least.get(run.total_bits as usize + 1);
+        assert!(next.is_none_or(|power| *power > line.budget), "sheet {sheet:02x?}");
+        while refitted.refit_step() {}
+        assert_eq!(refitted.bits, run.bits, "sheet {sheet:02x?} start {start:?}");
+    }
+}

@@ -1,0 +1,164 @@
+//! The bench program and the examples, against the independent loader.
+
+use crate::compare::hex;
+use crate::inputs;
+use crate::paper::line::LARGEST_SHEET;
+use crate::paper::printed;
+use crate::random::Random;
+use crate::sheets::{bare, silence, SAMPLE};
+use std::io::{ErrorKind, Write};
+use std::path::{Path, PathBuf};
+use std::process::{Command, Stdio};
+use std::time::Duration;
+
+/// How many sheets the bench program is given.
+pub const SHEETS: u64 = 600;
+const SEED: u64 = 2;
+/// Sheets that any comparison should have, before the random ones.
+const FIXED: u64 = 9;
+
+/// A sheet of exactly 4,096 bytes that is accepted.
+fn longest() -> Vec<u8> {
+    let mut commands = bare(64, 256, 1000);
+    while commands.concat().len() < LARGEST_SHEET {
+        commands.insert(3, silence(0, 0));
+    }
+    commands.concat()
+}
+
+fn sheet(index: u64) -> Vec<u8> {
+    let long = longest();
+    match index {
+        0 => Vec::new(),
+        1 => SAMPLE.to_vec(),
+        2 => long,
+        3 => [&long[..], &[7]].concat(),
+        4 => [&SAMPLE[..], &[7; 4096]].concat(),
+        5 => [&long[..], &long[..]].concat(),
+        6 => [&SAMPLE[..], &[0; 200_000]].concat(),
+        7 => vec![1; 4097],
+        8 => long[..4095].to_vec(),
+        FIXED.. => inputs::sheet(&mut Random::new(SEED, index), index),
+    }
+}
+
+/// What the program prints for a sheet, which may arrive in pieces.
+fn output(program: &Path, sheet: &[u8], in_pieces: bool) -> Result<String, String> {
+    let told = |error: std::io::Error| format!("cannot run {}: {error}", program.display());
+    let mut child = Command::new(program)
+        .stdin(Stdio::piped())
+        .stdout(Stdio::piped())
+        .stderr(Stdio::piped())
+        .spawn()
+        .map_err(told)?;
+    let mut stdin = child.stdin.take().expect("a pipe");
+    let pieces = if in_pieces { 3 } else { 1 };
+    for piece in sheet.chunks(sheet.len() / pieces + 1) {
+        match stdin.write_all(piece) {
+            // It need not read what comes after 4,096 bytes.
+            Err(error) if error.kind() == ErrorKind::BrokenPipe => break,
+            result => result.map_err(told)?,
+        }
+        if in_pieces {
+            std::thread::sleep(Duration::from_millis(2));
+        }
+    }
+    drop(stdin);
+    let output = child.wait_with_output().map_err(told)?;
+    if output.status.code().is_none() {
+        return Err(format!("the program stopped: {}", output.status));
+    }
+    if !output.stderr.is_empty() {
+        return Err("the program wrote to standard error".to_string());
+    }
+    Ok(String::from_utf8_lossy(&output.stdout).into_owned())
+}
+
+/// All that the program printed, against what is expected of it.
+fn same(program: &Path, sheet: &[u8], in_pieces: bool, expected: &str) -> Result<(), String> {
+    let printed = output(program, sheet, in_pieces)
+        .unwrap_or_else(|failure| format!("(nothing: {failure})\n"));
+    if printed == expected {
+        return Ok(());
+    }
+    let given = format!("bench program\n  sheet, {} bytes: {}\n", sheet.len(), hex(sheet));
+    Err(format!("{given}printed:\n{printed}expected:\n{expected}"))
+}
+
+/// One sheet of the comparison; every fourth arrives in pieces.
+pub fn one(program: &Path, index: u64) -> Result<String, String> {
+    let sheet = sheet(index);
+    let expected = printed(&sheet);
+    match same(program, &sheet, index % 4 == 3, &expected) {
+        Ok(()) => Ok(format!("sheet, {} bytes: {}\nboth:\n{expected}", sheet.len(), hex(&sheet))),
+        Err(failure) => Err(format!("{failure}again: tests/run --one bench {index}")),
+    }
+}
+
+pub fn compare(program: &Path) -> Result<String, String> {
+    let mut too_long = 0;
+    for index in 0..SHEETS {
+        one(program, index)?;
+        too_long += u64::from(sheet(index).len() > LARGEST_SHEET);
+    }
+    Ok(format!("{SHEETS} sheets, {too_long} of them over 4096 bytes"))
+}
+
+/// A sheet in readable hex: blanks between the bytes, comments from # on.
+fn from_hex(text: &str) -> Result<Vec<u8>, String> {
+    let code = |line: &'_ str| line.split('#').next().unwrap_or("").to_string();
+    let text: String = text.lines().map(|line| code(line) + " ").collect();
+    let byte = |word: &str| match (word.len(), u8::from_str_radix(word, 16)) {
+        (2, Ok(byte)) => Ok(byte),
+        _ => Err(format!("'{word}' is not a byte in hex")),
+    };
+    text.split_whitespace().map(byte).collect()
+}
+
+fn text(path: &Path) -> Result<String, String> {
+    std::fs::read_to_string(path).map_err(|error| format!("{}: {error}", path.display()))
+}
+
+/// What the bench program is to print for a sheet in readable hex.
+pub fn printed_for(path: &Path) -> Result<String, String> {
+    Ok(printed(&from_hex(&text(path)?)?))
+}
+
+/// One example: the .out is right, and the program prints it.
+pub fn example(program: &Path, path: &Path) -> Result<(), String> {
+    let name = path.file_stem().unwrap_or_default().to_string_lossy();
+    let told =
+        |failure| format!("example {name}: {failure}\nagain: tests/run --one example {name}");
+    let sheet = from_hex(&text(path)?).map_err(told)?;
+    let expected = text(&path.with_extension("out"))?;
+    if expected != printed(&sheet) {
+        return Err(told(format!("its .out should be\n{}", printed(&sheet))));
+    }
+    same(program, &sheet, false, &expected).map_err(told)
+}
+
+/// Every sheet of a folder; a file of any other kind is a mistake.
+pub fn examples(program: &Path, folder: &Path) -> Result<String, String> {
+    let told = |error: std::io::Error| format!("{}: {error}", folder.display());
+    let mut paths: Vec<PathBuf> = Vec::new();
+    for entry in std::fs::read_dir(folder).map_err(told)? {
+        paths.push(entry.map_err(told)?.path());
+    }
+    paths.sort();
+    let mut count = 0;
+    for path in &paths {
+        let other = |extension| paths.contains(&path.with_extension(extension));
+        match path.extension().and_then(|extension| extension.to_str()) {
+            Some("hex") => {
+                example(program, path)?;
+                count += 1;
+            }
+            Some("out") if other("hex") => {}
+            _ => return Err(format!("{} is no example and no output of one", path.display())),
+        }
+    }
+    match count {
+        0 => Err(format!("{} has no examples", folder.display())),
+        _ => Ok(format!("{count} sheets")),
+    }
+}

@@ -1,0 +1,243 @@
+//! Valid line sheets from a seed.
+
+use crate::paper::line::{cost, power, read, Kind, LARGEST_POWER, LARGEST_SHEET};
+use crate::paper::run::Running;
+use crate::random::Random;
+
+/// A sheet as its commands, so that damage can move them about.
+pub type Commands = Vec<Vec<u8>>;
+
+/// The sample sheet of document 01, at budget 39.
+pub const SAMPLE: [u8; 61] = [
+    1, 0, 3, 2, 1, 0, 3, 0, 0, 0, 0, 0, 0, 0, 39, //
+    4, 0, 0, 3, 0, 1, 15, 0, 0, 0, 0, 0, 0, 0, 100, //
+    4, 1, 0, 5, 0, 1, 2, 0, 0, 0, 0, 0, 0, 0, 100, //
+    5, 2, 0, 1, 0, 1, 7, 0, 0, 0, 0, 0, 0, 0, 100, 7,
+];
+
+/// How the tones of one line compare.
+#[derive(Clone, Copy)]
+enum Likeness {
+    Equal,
+    /// Small costs, whose steps meet often.
+    Ties,
+    /// Noise rises and gain falls from tone to tone, as on a cable.
+    Cable,
+    Edges,
+    Any,
+}
+
+/// What the tones of one line have in common.
+struct Plan {
+    tones: usize,
+    gap: u64,
+    likeness: Likeness,
+    /// Noise and gain, where they are the same for all.
+    equal: (u16, u16),
+    /// How many tones in four are single.
+    singles: usize,
+    tight_caps: bool,
+    tight_masks: bool,
+}
+
+fn tones(random: &mut Random) -> usize {
+    let (low, high) = match random.below(8) {
+        0 => return 1,
+        1 => return random.pick(&[31, 32, 33, 63, 64, 65]),
+        2 => return random.pick(&[224, 225, 255, 256]),
+        3 => (65, 256),
+        4 => (17, 64),
+        5 => (2, 4),
+        _ => (1, 16),
+    };
+    random.between(low, high) as usize
+}
+
+impl Plan {
+    fn new(random: &mut Random, tones: usize) -> Plan {
+        use Likeness::*;
+        let likeness = random.pick(&[Equal, Ties, Ties, Cable, Edges, Any]);
+        let any = random.between(256, 65_535);
+        let gap = match likeness {
+            Ties => 256,
+            _ => random.pick(&[256, 257, 65_535, any, any]),
+        };
+        Plan {
+            tones,
+            gap,
+            likeness,
+            equal: random.pick(&[(17, 5), (1, 1), (65_535, 1), (1, 65_535)]),
+            singles: random.pick(&[0, 1, 2, 4]),
+            tight_caps: random.once_in(3),
+            tight_masks: random.once_in(2),
+        }
+    }
+
+    fn noise_and_gain(&self, random: &mut Random, tone: usize) -> (u16, u16) {
+        let share = tone as u64 * 65_000 / self.tones as u64;
+        match self.likeness {
+            Likeness::Equal => self.equal,
+            Likeness::Ties => (random.pick(&[1, 2, 3, 3, 4, 5, 6, 12]), 1),
+            Likeness::Cable => {
+                let noise = 20 + share / 400 + random.between(0, 30);
+                let gain = 65_100 - share + random.between(0, 400);
+                (noise as u16, gain as u16)
+            }
+            Likeness::Edges => (random.pick(&[1, 65_535]), random.pick(&[1, 65_535])),
+            Likeness::Any => (random.between(1, 65_535) as u16, random.between(1, 65_535) as u16),
+        }
+    }
+
+    fn mask(&self, random: &mut Random, kind: Kind, cost: u64, most: u8) -> u64 {
+        let edge = power(kind, cost, random.between(0, u64::from(most)) as u8);
+        match random.below(if self.tight_masks { 8 } else { 40 }) {
+            0 => 0,
+            1 | 2 => edge,
+            3 => edge.saturating_sub(1),
+            4 => edge + 1,
+            5 | 6 => random.sized(LARGEST_POWER),
+            _ => LARGEST_POWER,
+        }
+    }
+
+    fn tone(&self, random: &mut Random, number: usize) -> Vec<u8> {
+        let single = random.below(4) < self.singles;
+        let (kind, most) = if single { (Kind::Single, 7) } else { (Kind::Pair, 15) };
+        let (noise, gain) = self.noise_and_gain(random, number);
+        let cap = match random.below(4) {
+            0 if self.tight_caps => 0,
+            1 if self.tight_caps => 1,
+            2 => random.between(0, u64::from(most)) as u8,
+            _ => most,
+        };
+        let mask = self.mask(random, kind, cost(self.gap, noise, gain), most);
+        tone(single, number as u8, noise, gain, cap, mask)
+    }
+}
+
+pub fn tone(single: bool, number: u8, noise: u16, gain: u16, cap: u8, mask: u64) -> Vec<u8> {
+    let mut bytes = vec![if single { 5 } else { 4 }, number];
+    bytes.extend(noise.to_be_bytes());
+    bytes.extend(gain.to_be_bytes());
+    bytes.push(cap);
+    bytes.extend(mask.to_be_bytes());
+    bytes
+}
+
+pub fn silence(word: u8, map: u32) -> Vec<u8> {
+    let mut bytes = vec![6, word];
+    bytes.extend(map.to_be_bytes());
+    bytes
+}
+
+/// A silence that names tones of the line only; often few, sometimes none.
+pub fn some_silence(random: &mut Random, tones: usize) -> Vec<u8> {
+    let word = random.below(8);
+    let on_line = tones.saturating_sub(32 * word).min(32);
+    let within = ((1u64 << on_line) - 1) as u32;
+    let any = random.next();
+    let map = match random.below(5) {
+        0 => 0,
+        1 => u32::MAX,
+        2 => 1 << random.below(32),
+        3 => (any & any >> 8 & any >> 16) as u32,
+        _ => any as u32,
+    };
+    silence(word as u8, map & within)
+}
+
+/// The first three commands, the end command, and nothing described.
+pub fn bare(tones: usize, gap: u64, budget: u64) -> Commands {
+    let mut commands = vec![vec![1], vec![2], vec![3], vec![7]];
+    commands[0].extend((tones as u16).to_be_bytes());
+    commands[1].extend((gap as u16).to_be_bytes());
+    commands[2].extend(budget.to_be_bytes());
+    commands
+}
+
+fn described(random: &mut Random, tones: usize) -> Vec<usize> {
+    let mut numbers: Vec<usize> = (0..tones).collect();
+    let order = random.below(3);
+    if order == 1 {
+        numbers.reverse();
+    }
+    let count = match random.below(6) {
+        0 => random.below(tones.min(3) + 1),
+        1 => random.below(tones + 1),
+        _ => tones,
+    };
+    if order == 2 || random.once_in(2) {
+        random.shuffle(&mut numbers);
+    }
+    numbers.truncate(count);
+    numbers
+}
+
+/// A budget: at an end, exactly at what some table needs or next to it, or any.
+fn budget(random: &mut Random, commands: &Commands) -> u64 {
+    let mut run = Running::nothing(&read(&commands.concat()).expect("a valid sheet"));
+    let full: Vec<u8> = run.limit[..run.tones].to_vec();
+    let bits: usize = full.iter().map(|bits| usize::from(*bits)).sum();
+    let full_power = (0..run.tones).map(|t| power(run.kind[t], run.cost[t], full[t])).sum();
+    match random.below(10) {
+        0 => random.pick(&[0, 0, 1, LARGEST_POWER]),
+        1 => random.between(1, 12),
+        2 => random.sized(LARGEST_POWER),
+        3 => full_power,
+        4 => full_power.saturating_sub(1),
+        5 => random.sized(full_power),
+        6 => random.between(0, full_power),
+        kind => {
+            let moves = random.below(bits + 1);
+            for _ in 0..moves {
+                run.add();
+            }
+            (run.total_power + 8).saturating_sub(kind as u64)
+        }
+    }
+}
+
+fn commands_of(random: &mut Random, tones: usize) -> Commands {
+    let plan = Plan::new(random, tones);
+    let mut commands = bare(tones, plan.gap, LARGEST_POWER);
+    for number in described(random, tones) {
+        let tone = plan.tone(random, number);
+        commands.insert(commands.len() - 1, tone);
+    }
+    for _ in 0..random.pick(&[0, 0, 1, 2, 12]) {
+        let place = 3 + random.below(commands.len() - 3);
+        commands.insert(place, some_silence(random, tones));
+    }
+    let budget = budget(random, &commands);
+    commands[2][1..].copy_from_slice(&budget.to_be_bytes());
+    commands
+}
+
+/// A valid sheet, as its commands.
+pub fn commands(random: &mut Random) -> Commands {
+    let tones = tones(random);
+    let mut commands = commands_of(random, tones);
+    if random.once_in(40) {
+        fill(random, &mut commands, tones, LARGEST_SHEET);
+    }
+    commands
+}
+
+/// Silences, most of them empty, up to so many bytes or as near below as they come.
+pub fn fill(random: &mut Random, commands: &mut Commands, tones: usize, bytes: usize) {
+    let mut length = commands.concat().len();
+    while length + 6 <= bytes {
+        let empty = silence(random.below(8) as u8, 0);
+        let some = some_silence(random, tones);
+        commands.insert(3, if random.once_in(100) { some } else { empty });
+        length += 6;
+    }
+}
+
+/// A valid sheet of one to three tones: few enough tables to try them all.
+#[cfg(test)]
+pub fn small(seed: u64, index: u64) -> Vec<u8> {
+    let mut random = Random::new(seed, index);
+    let tones = random.between(1, 3) as usize;
+    commands_of(&mut random, tones).concat()
+}

@@ -1,0 +1,137 @@
+//! Our time and the independent loader's, side by side.
+
+use crate::calls::{self, Buffer, Call};
+use crate::inputs::Input;
+use crate::paper::line::{read, Line, LARGEST_POWER};
+use crate::paper::run::Running;
+use crate::sheets::{bare, silence, tone};
+use crate::stack;
+use std::hint::black_box;
+use std::time::{Duration, Instant};
+
+/// Each time is the best of so many, ours and the paper's by turns.
+const ROUNDS: usize = 41;
+/// A round has as many calls as take about so long.
+const ROUND: Duration = Duration::from_millis(1);
+
+/// A line to be timed: a cable, or four costs whose steps meet all the time.
+#[derive(Clone, Copy)]
+struct Shape {
+    name: &'static str,
+    /// Whether the budget carries half of what the limits allow, or all.
+    bound: bool,
+    ties: bool,
+}
+
+const SHAPES: [Shape; 4] = [
+    Shape { name: "bound", bound: true, ties: false },
+    Shape { name: "unbound", bound: false, ties: false },
+    Shape { name: "bound, ties", bound: true, ties: true },
+    Shape { name: "unbound, ties", bound: false, ties: true },
+];
+
+impl Shape {
+    /// Gain falls and noise rises; single tones at both ends; two silenced.
+    fn sheet(self, tones: usize) -> Vec<u8> {
+        let mut commands = bare(tones, if self.ties { 256 } else { 4057 }, LARGEST_POWER);
+        for number in 0..tones {
+            let share = number * 256 / tones;
+            let (noise, gain) = match self.ties {
+                true => ([3, 12, 6, 24][number % 4], 1),
+                false => (20 + share / 3, 60_000 / (1 + share * share / 64)),
+            };
+            let single = number == 0 || number == tones - 1;
+            let cap = if single { 7 } else { 15 };
+            let tone = tone(single, number as u8, noise as u16, gain as u16, cap, 40_000);
+            commands.insert(commands.len() - 1, tone);
+        }
+        commands.insert(commands.len() - 1, silence(0, 1 << 5 | 1 << 9));
+        if self.bound {
+            let mut run = Running::nothing(&read(&commands.concat()).expect("a valid sheet"));
+            let bits: u64 = run.limit.iter().map(|bits| u64::from(*bits)).sum();
+            while run.total_bits < bits / 2 && run.add() {}
+            commands[2][1..].copy_from_slice(&run.total_power.to_be_bytes());
+        }
+        commands.concat()
+    }
+
+    /// A bound line is re-fitted from the full table, an unbound one from no bits.
+    /// With ties only the upper half is full, so that it takes exchanges.
+    fn start(self, line: &Line) -> Vec<u8> {
+        let limit = Running::nothing(line).limit;
+        let full = |tone: usize| match self.ties {
+            true => tone >= line.tones / 2,
+            false => self.bound,
+        };
+        (0..line.tones).map(|tone| if full(tone) { limit[tone] } else { 0 }).collect()
+    }
+
+    /// The target is half of what most bits carries.
+    fn input(self, tones: usize) -> Input {
+        let sheet = self.sheet(tones);
+        let line = read(&sheet).expect("a valid sheet");
+        let mut run = Running::nothing(&line);
+        while run.add() {}
+        Input {
+            start: self.start(&line),
+            target: run.total_bits as u32 / 2,
+            table: vec![0; 9 * tones],
+            tidy: vec![0; sheet.len()],
+            answer: vec![0; 24],
+            sheet,
+        }
+    }
+}
+
+/// The time of one call, when so many are made.
+fn time(calls: u32, mut call: impl FnMut() -> u64) -> f64 {
+    let begin = Instant::now();
+    for _ in 0..calls {
+        black_box(call());
+    }
+    begin.elapsed().as_secs_f64() / f64::from(calls)
+}
+
+fn row(call: Call, input: &Input) -> String {
+    assert_eq!(calls::ours(call, input).as_ref(), Ok(&calls::papers(call, input)));
+    let (mut sheet, mut start) = (input.sheet.clone(), input.start.clone());
+    let (mut table, mut answer) = (call.destination(input).to_vec(), input.answer.clone());
+    let buffer = |bytes: &mut Vec<u8>| -> Buffer { (bytes.as_mut_ptr(), bytes.len()) };
+    let buffers = [&mut sheet, &mut start, &mut table, &mut answer].map(buffer);
+    let ours = || {
+        let [sheet, start, table, answer] = black_box(buffers);
+        // SAFETY: four vectors, each with its own length.
+        unsafe { call.ours(sheet, start, black_box(input.target), table, answer) }
+    };
+    let (mut table, mut answer) = (table.clone(), answer.clone());
+    let mut papers = || {
+        let (sheet, start) = (black_box(&input.sheet), black_box(&input.start));
+        call.papers(sheet, start, black_box(input.target), &mut table, &mut answer)
+    };
+    let calls = (ROUND.as_secs_f64() / time(1, ours).max(1e-8)).clamp(1.0, 20_000.0) as u32;
+    let (mut our_best, mut papers_best) = (f64::MAX, f64::MAX);
+    for _ in 0..ROUNDS {
+        our_best = our_best.min(time(calls, ours));
+        papers_best = papers_best.min(time(calls, &mut papers));
+    }
+    // SAFETY: the same four vectors.
+    let stack = unsafe { stack::used(call, buffers, input.target) };
+    let (our_best, papers_best) = (our_best * 1e6, papers_best * 1e6);
+    let ratio = our_best / papers_best;
+    format!("{:<12}{our_best:>10.3}{papers_best:>10.3}{ratio:>8.2}{stack:>8}", call.name())
+}
+
+/// One row for each line and call; times in microseconds, stack in bytes.
+pub fn table() -> String {
+    let mut table =
+        "tones line          call          ours us  paper us   ratio   stack\n".to_string();
+    for tones in [16, 64, 256] {
+        for shape in SHAPES {
+            let input = shape.input(tones);
+            for call in Call::ALL {
+                table += &format!("{tones:>5} {:<14}{}\n", shape.name, row(call, &input));
+            }
+        }
+    }
+    table
+}
