@@ -13,7 +13,7 @@ use lib.ListN.{getD}
 use lib.Pow.{pow-pos, pow-mono, shl-lt}
 use Rattle.steps.specs.Tones.{Tones, step, Before, by-size, by-tone, Table, _!_}
 use Rattle.steps.specs.Runs.{against, choice, earliestFree, latestHeld}
-use Rattle.search.specs.Flat.{InRange, Under, Describes, noStep, Sizes}
+use Rattle.search.specs.Flat.{InRange, Under, Describes, noStep, Sizes, NextBelow, NextAtLeast}
 use Rattle.search.proofs.Kept.{free-kept, held-kept, none-free, none-held}
 
 -- ---- what is chosen
@@ -107,12 +107,20 @@ module _ {free : List ℕ} {size tone i : ℕ} (L : Least free size tone i) wher
     at = λ m. (omega arith, refl);
   }
 
-  pub least-keep : size ≤ getD free i 0 → Least free size tone (i + 1)
-  least-keep h = record {
-    low = below-more _ i (L .low) h;
+  -- tones passed over have no smaller size
+  pub least-skip : {count r : ℕ} → NextBelow count free i size r → Least free size tone r
+  least-skip {count} {r} N = record {
+    low = low;
     first = L .first;
-    at = λ m. (omega (arith, L .at m .0), L .at m .1);
+    at = λ m. (omega (arith, L .at m .0, N .inside .0), L .at m .1);
   }
+    where
+      low : (j : ℕ) → j < r → size ≤ getD free j 0
+      low j l = go (decLt j i)
+        where
+          go : Dec (j < i) → size ≤ getD free j 0
+          go (yes q) = L .low j q
+          go (no n) = N .passed j (omega arith) l
 
 -- Of the first i sizes the greatest is `size`, last at `tone`; before any is above it, `size` is 0.
 pub record Greatest (held : List ℕ) (size tone i : ℕ) : Type 0 where
@@ -131,12 +139,21 @@ module _ {held : List ℕ} {size tone i : ℕ} (G : Greatest held size tone i) w
     at = λ m. (omega arith, refl);
   }
 
-  pub greatest-keep : getD held i 0 < size → Greatest held size tone (i + 1)
-  greatest-keep h = record {
-    high = below-more _ i (G .high) (omega arith);
-    last = below-more _ i (G .last) (λ q. h);
-    at = λ m. (omega (arith, G .at m .0), G .at m .1);
+  -- tones passed over have smaller sizes
+  pub greatest-skip : {count r : ℕ} → NextAtLeast count held i size r → Greatest held size tone r
+  greatest-skip {count} {r} N = record {
+    high = λ j l. go j l (decLt j i);
+    last = λ j l q. after j l q (decLt j i);
+    at = λ m. (omega (arith, G .at m .0, N .inside .0), G .at m .1);
   }
+    where
+      go : (j : ℕ) → j < r → Dec (j < i) → getD held j 0 ≤ size
+      go j l (yes q) = G .high j q
+      go j l (no n) = omega (arith, N .passed j (omega arith) l)
+
+      after : (j : ℕ) → j < r → tone < j → Dec (j < i) → getD held j 0 < size
+      after j l h (yes q) = G .last j q h
+      after j l h (no n) = N .passed j (omega arith) l
 
 -- ---- what they find
 

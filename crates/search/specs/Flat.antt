@@ -55,6 +55,17 @@ pub record Sizes (count : ℕ) (limits firsts doublings bits free held : List �
   pub free-at : (i : ℕ) → i < count → getD free i 0 ≡ freeSize (getD limits i 0) (getD firsts i 0) (getD doublings i 0) (getD bits i 0)
   pub held-at : (i : ℕ) → i < count → getD held i 0 ≡ heldSize (getD firsts i 0) (getD doublings i 0) (getD bits i 0)
 
+-- the first tone from a place on whose size is below one, or is not below it; the number of tones where there is none
+pub record NextBelow (count : ℕ) (sizes : List ℕ) (from size r : ℕ) : Type 0 where
+  pub inside : (from ≤ r) × (r ≤ count)
+  pub passed : (j : ℕ) → from ≤ j → j < r → size ≤ getD sizes j 0
+  pub there : r < count → getD sizes r 0 < size
+
+pub record NextAtLeast (count : ℕ) (sizes : List ℕ) (from size r : ℕ) : Type 0 where
+  pub inside : (from ≤ r) × (r ≤ count)
+  pub passed : (j : ℕ) → from ≤ j → j < r → getD sizes j 0 < size
+  pub there : r < count → size ≤ getD sizes r 0
+
 -- what a search answers, as an option
 abbrev pub found : Found → Option ℕ
 found Nothing = none

@@ -4,7 +4,7 @@ ghost use mathlib.Core.Path.{_≡_};
 ghost use Prim.Native.Nat.{ℕ, _*_, _^_, _≤_, _<_};
 ghost use Rattle.steps.specs.Tones.{Tones, Table};
 ghost use Rattle.steps.specs.Runs.{earliestFree, latestHeld};
-ghost use Rattle.search.specs.Flat.{InRange, Under, Describes, freeSize, heldSize, Sizes, found};
+ghost use Rattle.search.specs.Flat.{InRange, Under, Describes, freeSize, heldSize, Sizes, NextBelow, NextAtLeast, found};
 
 // The tone whose step a search found, if any.
 pub enum Found {
@@ -66,20 +66,49 @@ pub fn fill_sizes(
     }
 }
 
-// The tone of the earliest free step: of equal sizes the first.
+// The first tone from a place on whose size is below this one, or `count`.
+fn next_below(count: usize, sizes: &[u64; 256], from: usize, size: u64) -> usize
+    requires { ⌜ (count ≤ 256) × (from ≤ count) ⌝ }
+    ensures { λ r. ⌜ NextBelow count (now (sizes .entry)) from size r ⌝ }
+{
+    let mut i = from;
+    while i < count {
+        if sizes[i] < size {
+            return i;
+        }
+        i += 1;
+    }
+    i
+}
+
+// The first tone from a place on whose size is not below this one, or `count`.
+fn next_at_least(count: usize, sizes: &[u64; 256], from: usize, size: u64) -> usize
+    requires { ⌜ (count ≤ 256) × (from ≤ count) ⌝ }
+    ensures { λ r. ⌜ NextAtLeast count (now (sizes .entry)) from size r ⌝ }
+{
+    let mut i = from;
+    while i < count {
+        if size <= sizes[i] {
+            return i;
+        }
+        i += 1;
+    }
+    i
+}
+
+// The tone of the earliest free step: of equal sizes the first. It goes from one smaller size to the next; between them a turn only
+// compares, which is faster than carrying size and tone through every turn.
 pub fn earliest_free(count: usize, free: &[u64; 256]) -> Found
     requires { ⌜ count ≤ 256 ⌝ }
     ensures { λ r. ⌜ ((limits firsts doublings bits held : List ℕ) → InRange count limits firsts doublings → Sizes count limits firsts doublings bits (now (free .entry)) held → (T : Tones) (t : Table) → Describes count limits firsts doublings bits T t → found r ≡ earliestFree T t) ⌝ }
 {
     let mut size: u64 = u64::MAX;
     let mut tone: usize = 0;
-    let mut i: usize = 0;
+    let mut i = next_below(count, free, 0, size);
     while i < count {
-        if free[i] < size {
-            size = free[i];
-            tone = i;
-        }
-        i += 1;
+        size = free[i];
+        tone = i;
+        i = next_below(count, free, i + 1, size);
     }
     if size == u64::MAX {
         return Found::Nothing;
@@ -94,13 +123,11 @@ pub fn latest_held(count: usize, held: &[u64; 256]) -> Found
 {
     let mut size: u64 = 0;
     let mut tone: usize = 0;
-    let mut i: usize = 0;
+    let mut i = next_at_least(count, held, 0, size);
     while i < count {
-        if size <= held[i] {
-            size = held[i];
-            tone = i;
-        }
-        i += 1;
+        size = held[i];
+        tone = i;
+        i = next_at_least(count, held, i + 1, size);
     }
     if size == 0 {
         return Found::Nothing;
