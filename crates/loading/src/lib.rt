@@ -49,16 +49,6 @@ impl Running {
         }
     }
 
-    // Moved, to this table.
-    fn moved(self) -> Stepped
-        ensures { λ r. ⌜ r ≡ record { running = self; answer = Moved } ⌝ }
-    {
-        Stepped {
-            running: self,
-            answer: Answer::Moved,
-        }
-    }
-
     // Takes a step of a tone, of this size, and keeps the sizes of its steps.
     fn take(
         mut self,
@@ -136,8 +126,10 @@ impl Running {
         if budget < self.power + step {
             return self.finished();
         }
-        self.take(tone, step, count, limits, firsts, doublings, free, held)
-            .moved()
+        Stepped {
+            running: self.take(tone, step, count, limits, firsts, doublings, free, held),
+            answer: Answer::Moved,
+        }
     }
 
     // Above the budget gives up the held step that was found; otherwise takes the free one if it fits.
@@ -159,8 +151,10 @@ impl Running {
     {
         if budget < self.power {
             let step = held[latest];
-            return self.give_up(latest, step, count, limits, firsts, doublings, free, held)
-                .moved();
+            return Stepped {
+                running: self.give_up(latest, step, count, limits, firsts, doublings, free, held),
+                answer: Answer::Moved,
+            };
         }
         self.take_if_fits(
             earliest,
@@ -220,8 +214,10 @@ impl Running {
         let up = free[f];
         if comes_before(up, f, down, h) {
             let less = self.give_up(h, down, count, limits, firsts, doublings, free, held);
-            return less.take(f, up, count, limits, firsts, doublings, free, held)
-                .moved();
+            return Stepped {
+                running: less.take(f, up, count, limits, firsts, doublings, free, held),
+                answer: Answer::Moved,
+            };
         }
         self.give_up_or_take(
             h,

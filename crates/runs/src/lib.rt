@@ -69,11 +69,14 @@ pub fn run(
         &mut free,
         &mut held,
     );
-    let mut table = running;
+    let mut stepped = Stepped {
+        running: running,
+        answer: Answer::Moved,
+    };
     let mut moves: u32 = 0;
     while moves < most {
-        let stepped = step(
-            table,
+        stepped = step(
+            stepped.running,
             rule,
             budget,
             count,
@@ -83,10 +86,10 @@ pub fn run(
             &mut free,
             &mut held,
         );
-        table = stepped.running;
         let answer = stepped.answer;
         match answer {
             Answer::Finished => {
+                let table = stepped.running;
                 return Ran {
                     running: table,
                     moves: moves,
@@ -97,6 +100,7 @@ pub fn run(
             }
         }
     }
+    let table = stepped.running;
     Ran {
         running: table,
         moves: moves,

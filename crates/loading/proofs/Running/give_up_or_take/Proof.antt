@@ -1,5 +1,5 @@
 -- `loading::Running::give_up_or_take` meets its contract. Assumes nothing.
-use mathlib.Core.Path.{refl, _∙_}
+use mathlib.Core.Path.{refl}
 use native.Mathlib.Omega.{arith}
 use lib.ListN.{getD}
 use borrow.Author.Needs.{needs}
@@ -22,17 +22,14 @@ element-copy-out-step c = can c .inside
 give-up-requires : tie.Need-give-up-requires
 give-up-requires c κs = let k = can (c .before .before .before) in (c .before .before .before .before .before .pre .0 .in-range, c .before .before .before .before .before .pre .1, k .tone, k .held, k .within, k .bounded)
 
-moved-requires : tie.Need-moved-requires
-moved-requires c κs = search needs
-
 returns : tie.Need-returns
 returns c =
-    let a = c .before .before .before .before .before .before .before in
-    let k = can (c .before .before .before .before .before) in (
+    let a = c .before .before .before .before .before .before in
+    let k = can (c .before .before .before .before) in (
       λ T t S.
-          rw (gives-up S (a .args .budget) (a .args .latest) (found (a .args .earliest)) (c .before .before .before .before .before .if1 .taken))
-          (hands-moved S (c .moved .ensures ∙ rw (c .before .give-up .ensures .0 .0)) (give-up-stands S (held-found S (a .pre .2) refl) (k .sized) (omega (arith, k .inside, c .before .give-up .ensures .0 .1)))),
-      rw (c .moved .ensures) (c .before .give-up .ensures .1),
+          rw (gives-up S (a .args .budget) (a .args .latest) (found (a .args .earliest)) (c .before .before .before .before .if1 .taken))
+          (hands-moved S (rw (c .give-up .ensures .0 .0)) (give-up-stands S (held-found S (a .pre .2) refl) (k .sized) (omega (arith, k .inside, c .give-up .ensures .0 .1)))),
+      c .give-up .ensures .1,
     )
 
 take-if-fits-requires : tie.Need-take-if-fits-requires
@@ -50,7 +47,6 @@ give-up-or-take-spec =
     mul-step
     element-copy-out-step
     give-up-requires
-    moved-requires
     returns
     take-if-fits-requires
     returns-2)

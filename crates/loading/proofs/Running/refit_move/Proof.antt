@@ -1,5 +1,4 @@
 -- `loading::Running::refit_move` meets its contract. Assumes nothing.
-use mathlib.Core.Path.{_∙_}
 use native.Mathlib.Omega.{arith}
 use lib.ListN.{getD}
 use borrow.Author.Needs.{needs}
@@ -74,24 +73,21 @@ then-f c =
 take-requires : tie.Need-take-requires
 take-requires c κs = let k = then-f (c .before .before) in (c .before .before .before .before .before .before .before .before .before .before .before .before .before .before .before .pre .0 .in-range, c .before .before .give-up .ensures .1, k .tone, k .free, k .below, omega (arith, k .bounded))
 
-moved-requires : tie.Need-moved-requires
-moved-requires c κs = search needs
-
 returns-3 : tie.Need-returns-3
 returns-3 c =
-    let a = c .before .before .before .before .before .before .before .before .before .before .before in
+    let a = c .before .before .before .before .before .before .before .before .before .before in
     let p = a .before .before .before .before .before .before .pre in
     let up = can-f a in
     let down = can-h a in
-    let gave = c .before .before .before .before .give-up .ensures .0 in
-    let took = c .before .take .ensures .0 in (
+    let gave = c .before .before .before .give-up .ensures .0 in
+    let took = c .take .ensures .0 in (
       λ T t S.
           let E = free-found S (p .3) (a .before .earliest .given .1) in
           let L = held-found S (p .2) (a .before .before .before .before .latest .given .1) in
-          let B = earlier-before S E L (up .sized) (down .sized) (c .before .before .before .before .before .before .before .before .comes-before .ensures .0 (c .before .before .before .before .before .before .before .if1 .taken)) in
+          let B = earlier-before S E L (up .sized) (down .sized) (c .before .before .before .before .before .before .before .comes-before .ensures .0 (c .before .before .before .before .before .before .if1 .taken)) in
           rw (a .before .before .before .before .latest .given .1, a .before .earliest .given .1, exchanges S (a .before .before .before .before .before .before .args .budget) _ _ B)
-          (hands-moved S (c .moved .ensures ∙ rw (took .0, gave .0)) (exchange-stands S E L (up .sized) (down .sized) B (rw (gave .1) (down .inside)) (omega (arith, up .inside, rw (gave .0) at (took .1))))),
-      rw (c .moved .ensures) (c .before .take .ensures .1),
+          (hands-moved S (rw (took .0, gave .0)) (exchange-stands S E L (up .sized) (down .sized) B (rw (gave .1) (down .inside)) (omega (arith, up .inside, rw (gave .0) at (took .1))))),
+      c .take .ensures .1,
     )
 
 give-up-or-take-requires-2 : tie.Need-give-up-or-take-requires-2
@@ -131,7 +127,6 @@ refit-move-spec =
     comes-before-requires
     give-up-requires
     take-requires
-    moved-requires
     returns-3
     give-up-or-take-requires-2
     returns-4)

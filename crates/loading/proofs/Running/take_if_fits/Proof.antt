@@ -1,5 +1,4 @@
 -- `loading::Running::take_if_fits` meets its contract. Assumes nothing.
-use mathlib.Core.Path.{_∙_}
 use native.Mathlib.Omega.{arith}
 use lib.ListN.{getD}
 use borrow.Author.Needs.{needs}
@@ -46,14 +45,11 @@ returns-2 c =
 take-requires : tie.Need-take-requires
 take-requires c κs = let k = can (c .before .before .before .before .before) in (c .before .before .before .before .before .before .before .before .pre .0 .in-range, c .before .before .before .before .before .before .before .before .pre .1, k .tone, k .free, k .below, omega (arith, k .bounded))
 
-moved-requires : tie.Need-moved-requires
-moved-requires c κs = search needs
-
 returns-3 : tie.Need-returns-3
 returns-3 c =
-    let k = can (c .before .before .before .before .before .before .before) in (
-      λ T t S. fitting S (c .before .before .before .before .before .before .before .before .before .before .pre .2) (c .before .before .before .before .before .before .before .before .earliest .given .1) (k .sized) (c .before .before .before .before .if1 .left) (omega (arith, k .inside, c .before .take .ensures .0 .1)) (c .moved .ensures ∙ rw (c .before .take .ensures .0 .0)),
-      rw (c .moved .ensures) (c .before .take .ensures .1),
+    let k = can (c .before .before .before .before .before .before) in (
+      λ T t S. fitting S (c .before .before .before .before .before .before .before .before .before .pre .2) (c .before .before .before .before .before .before .before .earliest .given .1) (k .sized) (c .before .before .before .if1 .left) (omega (arith, k .inside, c .take .ensures .0 .1)) (rw (c .take .ensures .0 .0)),
+      c .take .ensures .1,
     )
 
 pub take-if-fits-spec : {M : Type 1} → statement M
@@ -70,5 +66,4 @@ take-if-fits-spec =
     finished-requires-2
     returns-2
     take-requires
-    moved-requires
     returns-3)
