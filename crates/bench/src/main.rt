@@ -11,7 +11,7 @@ fn print(text: &[u8]) {
     io::write_all(1, text);
 }
 
-// Two numbers, with a blank before each.
+// Two numbers, with a blank before each and the line's end after them.
 fn print_two(first: u64, second: u64) {
     print(b" ");
     io::print_decimal(1, first);

@@ -2,14 +2,14 @@
 -- Assumes nothing.
 use mathlib.Core.List.{List, _++_}
 use mathlib.Core.Logic.{if-pos, if-neg}
-use mathlib.Core.Option.{Option, none, some}
+use mathlib.Core.Option.{none, some}
 use mathlib.Core.Path.{_≡_, ap, _∙_}
 use Prim.Native.Nat.{ℕ, _*_, _≤_, _<_}
 use native.Mathlib.Decide.{ℕ-discrete}
 use borrow.Author.Tests.{lt-ltb, le-ltb, eq-eqb, ne-eqb}
 use lib.ListN.{length, drop, getD}
-use Rattle.steps.specs.Tones.{Table, sum, noBits, totalBits, totalPower}
-use Rattle.steps.specs.Runs.{Ran, addStep, refitStep, run, mostBits, carrying, setBits}
+use Rattle.steps.specs.Tones.{Table, sum, noBits, totalBits}
+use Rattle.steps.specs.Runs.{Ran, addStep, refitStep, run, mostBits, carrying}
 use Rattle.line.specs.declared.Line.{Line}
 use Rattle.line.specs.Line.{LineInRange, tones}
 use Rattle.command.specs.declared.Refusal.{Refusal}

@@ -1,6 +1,5 @@
 -- The moves that the code allows a run are enough, and one of them is the single step.
 -- Assumes nothing.
-use mathlib.Core.List.{List}
 use mathlib.Core.Path.{_≡_, refl}
 use Prim.Native.Nat.{ℕ}
 use Rattle.steps.specs.Tones.{Table, noBits, KeepsLimits}

@@ -4,20 +4,20 @@ use mathlib.Core.Bool.{Bool, true, false}
 use mathlib.Core.List.{List}
 use mathlib.Core.Option.{Option, none, some}
 use mathlib.Core.Path.{_≡_, refl, ap}
-use Prim.Native.Nat.{ℕ, _*_}
+use Prim.Native.Nat.{ℕ}
 use borrow.Author.Tests.{eqb-true}
-use lib.Dec.{eqb, ltb}
+use lib.Dec.{eqb}
 use lib.ListN.{length}
 use Rattle.steps.specs.Tones.{KeepsLimits}
-use Rattle.steps.specs.Runs.{Ran, refitStep, run, refitRun}
+use Rattle.steps.specs.Runs.{Ran, refitStep}
 use Rattle.line.specs.declared.Line.{Line}
 use Rattle.line.specs.Line.{LineInRange, tones}
-use Rattle.command.specs.declared.Refusal.the-variants.{DestinationTooSmall, StartLengthWrong}
+use Rattle.command.specs.declared.Refusal.the-variants.{StartLengthWrong}
 use Rattle.command.specs.Rows.{pick}
 use Rattle.starts.specs.Starts.{firstAbove}
 use Rattle.starts.proofs.Above.{none-keeps}
-use Rattle.lineloads.specs.Loads.{Loading, loaded, turned-down, ifRoom}
-use Rattle.lineloads.specs.Refits.{onAbove, onStart, refitTo, refitOn, stepOn, refitUpTo}
+use Rattle.lineloads.specs.Loads.{loaded, turned-down, ifRoom}
+use Rattle.lineloads.specs.Refits.{onAbove, refitTo, refitOn, stepOn, refitUpTo}
 use Rattle.lineloads.proofs.Runs.{refit-run, one-move}
 
 -- runs that agree from every starting table within the limits lead to the same outcome

@@ -17,7 +17,7 @@ use Rattle.tables.specs.Tables.{tableBytes}
 use Rattle.lineloads.specs.declared.Loaded.{Loaded}
 use Rattle.lineloads.specs.declared.Loaded.the-variants.{Totals, Refused}
 
--- A call ends in a table of a line, with the moves that led to it, or is turned down.
+-- A call ends in a table of a line, with the moves that a re-fit made, or is turned down. A loading answers no moves.
 pub data Loading : Type 0 where
   loaded : Line → Ran → Loading
   turned-down : Refusal → Loading

@@ -1,6 +1,5 @@
 // The loadings of a line into a lent buffer, with refusals 8 to 11. Document 01, 'The loading runs' and 'Why a sheet is turned down'.
 ghost use mathlib.Core.Path.{_≡_};
-ghost use Prim.Native.Nat.{_≤_};
 ghost use lib.ListN.{length};
 ghost use Rattle.line.specs.Line.{LineInRange};
 ghost use Rattle.lineloads.specs.Loads.{mostOn, targetOn, loadAnswer, afterLoading};
@@ -21,7 +20,7 @@ pub enum Refitted {
     Refused(Refusal),
 }
 
-// Loads for most bits. No line's limits add up to more than 256 × 15 moves.
+// Loads for most bits. No line's limits add up to more than 256 × 15 = 3,840.
 pub fn most(line: Line, table: &mut [u8]) -> Loaded
     requires { ⌜ LineInRange line ⌝ }
     ensures answer { λ r. ⌜ r ≡ loadAnswer (mostOn line (length (now (table .entry)))) ⌝ }

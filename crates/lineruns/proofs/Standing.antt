@@ -1,7 +1,6 @@
 -- The running table of a line beside the arrays that hold its tones: one stands for a table exactly if the other says so.
 -- Assumes nothing.
 use mathlib.Core.Path.{_≡_, refl}
-use Prim.Native.Nat.{ℕ, _<_, _≤_}
 use native.Mathlib.Omega.{arith}
 use lib.ListN.{getD}
 use Rattle.steps.specs.Tones.{Table, totalBits, sum}

@@ -14,7 +14,7 @@ use Rattle.line.proofs.Loads.{line-demand-3}
 use Rattle.command.specs.Refusals.{success}
 use Rattle.starts.proofs.Above.{none-above}
 use Rattle.tables.specs.Tables.{tableBytes}
-use Rattle.lineloads.specs.Loads.{Loading, loaded, mostOn, loadOutcome, afterLoading}
+use Rattle.lineloads.specs.Loads.{Loading, loaded, loadOutcome, afterLoading}
 use Rattle.lineloads.specs.Refits.{refitOn}
 use Rattle.lineloads.proofs.Outcomes.{most-fits}
 use Rattle.sheet.specs.Reading.{accepted, reading}

@@ -1,13 +1,16 @@
 -- What is proved of the loading calls: demand 3 on bytes, and what the technician checks every morning.
 -- Assumes nothing.
+use mathlib.Core.Bool.{true}
 use mathlib.Core.List.{List}
 use mathlib.Core.Path.{_≡_}
 use Prim.Native.Nat.{ℕ, _+_, _*_, _≤_, _<_}
 use lib.ListN.{getD}
 use Rattle.bigendian.specs.Number.{number}
-use Rattle.steps.specs.Tones.{Table, _!_, totalPower, KeepsLimits}
+use Rattle.steps.specs.Tones.{Table, _!_, sum, KeepsLimits}
 use Rattle.steps.specs.Runs.{mostBits, refitRun}
 use Rattle.steps.specs.Claims.{Demand3}
+use Rattle.silence.specs.Map.{silenced}
+use Rattle.line.specs.declared.Slot.the-variants.{Undescribed}
 use Rattle.line.specs.declared.Line.{Line}
 use Rattle.line.specs.Line.{blank, maskOf, tones}
 use Rattle.tables.specs.Tables.{tableBytes}
@@ -33,12 +36,20 @@ Demand3On sheet start room = (l : Line) → reading sheet ≡ accepted l → Kee
 abbrev pub maskAt : Line → (i : ℕ) → ℕ
 maskAt l i = maskOf (getD (l .entries) i blank .slot)
 
+-- the power of tone i as it is written, and that it carries neither bits nor power
+abbrev pub powerAt : Line → Table → (i : ℕ) → ℕ
+powerAt l t i = number (tableBytes (tones l) t) (9 * i + 1) 8
+
+abbrev pub Nothing : Line → Table → (i : ℕ) → Type 0
+Nothing l t i = (getD (tableBytes (tones l) t) (9 * i) 0 ≡ 0) × (powerAt l t i ≡ 0)
+
 -- A table that keeps limits and budget, as its written bytes have it: tone i's bits stand at 9 × i and its power in the 8 bytes after.
 pub record Respects (l : Line) (t : Table) : Type 0 where
   pub bits-at : (i : ℕ) → i < l .size → getD (tableBytes (tones l) t) (9 * i) 0 ≡ t ! i
-  pub power-at : (i : ℕ) → i < l .size → number (tableBytes (tones l) t) (9 * i + 1) 8 ≡ tones l .power i (t ! i)
+  pub power-at : (i : ℕ) → i < l .size → powerAt l t i ≡ tones l .power i (t ! i)
   -- every power is at most its tone's mask, and the powers add up to at most the budget
-  pub masks : (i : ℕ) → i < l .size → tones l .power i (t ! i) ≤ maskAt l i
-  pub budget : totalPower (tones l) t ≤ l .budget
-  -- a tone with limit 0, as one silenced or not described, carries nothing
-  pub silent : (i : ℕ) → i < l .size → tones l .limit i ≡ 0 → t ! i ≡ 0
+  pub masks : (i : ℕ) → i < l .size → powerAt l t i ≤ maskAt l i
+  pub budget : sum (l .size) (powerAt l t) ≤ l .budget
+  -- a silenced tone, and one not described, carries nothing
+  pub silenced-tones : (i : ℕ) → i < l .size → silenced (l .maps) i ≡ true → Nothing l t i
+  pub other-tones : (i : ℕ) → i < l .size → getD (l .entries) i blank .slot ≡ Undescribed → Nothing l t i

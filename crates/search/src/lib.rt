@@ -1,4 +1,4 @@
-// The earliest free step and the latest held one, by a scan over numbers lent as arrays: the sizes of each tone's own.
+// The earliest free step and the latest held one, by a scan over arrays with the size of each tone's next free and last held step.
 ghost use mathlib.Core.List.{List};
 ghost use mathlib.Core.Path.{_≡_};
 ghost use Prim.Native.Nat.{ℕ, _*_, _^_, _≤_, _<_};

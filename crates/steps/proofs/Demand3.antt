@@ -119,6 +119,7 @@ module _ (T : Tones) (R : Rising T) (budget : ℕ) (base : KeepsBudget T budget 
         limits = F .within;
         budget-kept = F .tight .fits;
         best = final-best T R F;
+        added = adding-ends .counted;
         counted = r .counted;
         bounded = r .bounded;
       }

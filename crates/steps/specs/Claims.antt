@@ -4,8 +4,8 @@ use mathlib.Core.Path.{_≡_}
 use mathlib.Core.Option.{Option, none, some}
 use mathlib.Core.List.{List}
 use Prim.Native.Nat.{ℕ, suc, _+_, _≤_, _<_}
-use Rattle.steps.specs.Tones.{Tones, step, Before, Table, _!_, Held, Free, powers, totalBits, totalPower, sumOfLimits, KeepsLimits, KeepsBudget}
-use Rattle.steps.specs.Runs.{Answer, moved, finished, refitStep, mostBits, refitRun}
+use Rattle.steps.specs.Tones.{Tones, step, Before, Table, _!_, noBits, Held, Free, powers, totalBits, totalPower, sumOfLimits, KeepsLimits, KeepsBudget}
+use Rattle.steps.specs.Runs.{Answer, moved, finished, addStep, refitStep, mostBits, refitRun}
 
 -- Efficient: every held step comes before every free one.
 pub record Efficient (T : Tones) (t : Table) : Type 0 where
@@ -41,6 +41,7 @@ pub record Demand3 (T : Tones) (budget : ℕ) (t : Table) : Type 0 where
   pub limits : KeepsLimits T (refitRun T budget t .table)
   pub budget-kept : KeepsBudget T budget (refitRun T budget t .table)
   pub best : Best T budget (refitRun T budget t .table)
+  pub added : Moves (addStep T budget) (mostBits T budget .moves) (noBits T) (mostBits T budget .table)
   pub counted : Moves (refitStep T budget) (refitRun T budget t .moves) t (refitRun T budget t .table)
   pub bounded : refitRun T budget t .moves ≤ sumOfLimits T
 

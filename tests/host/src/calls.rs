@@ -111,42 +111,72 @@ impl Call {
         sheet: Buffer,
         start: Buffer,
         target: u32,
-        destination: Buffer,
+        table: Buffer,
         answer: Buffer,
     ) -> u64 {
         use archive::*;
-        let ((s, s_len), (b, b_len)) = (sheet, start);
-        let ((d, d_len), (a, a_len)) = (destination, answer);
+        let ((sheet, sheet_length), (start, start_length)) = (sheet, start);
+        let ((table, table_length), (answer, answer_length)) = (table, answer);
         match self {
-            Call::Check => toqhaymi_check(s, s_len, a, a_len),
-            Call::LoadMost => toqhaymi_load_most(s, s_len, d, d_len, a, a_len),
-            Call::LoadTarget => toqhaymi_load_target(s, s_len, target, d, d_len, a, a_len),
-            Call::Refit => toqhaymi_refit(s, s_len, b, b_len, d, d_len, a, a_len),
-            Call::RefitStep => toqhaymi_refit_step(s, s_len, b, b_len, d, d_len, a, a_len),
-            Call::Tidy => toqhaymi_tidy(s, s_len, d, d_len, a, a_len),
+            Call::Check => toqhaymi_check(sheet, sheet_length, answer, answer_length),
+            Call::LoadMost => {
+                toqhaymi_load_most(sheet, sheet_length, table, table_length, answer, answer_length)
+            }
+            Call::LoadTarget => toqhaymi_load_target(
+                sheet,
+                sheet_length,
+                target,
+                table,
+                table_length,
+                answer,
+                answer_length,
+            ),
+            Call::Refit => toqhaymi_refit(
+                sheet,
+                sheet_length,
+                start,
+                start_length,
+                table,
+                table_length,
+                answer,
+                answer_length,
+            ),
+            Call::RefitStep => toqhaymi_refit_step(
+                sheet,
+                sheet_length,
+                start,
+                start_length,
+                table,
+                table_length,
+                answer,
+                answer_length,
+            ),
+            Call::Tidy => {
+                toqhaymi_tidy(sheet, sheet_length, table, table_length, answer, answer_length)
+            }
         }
     }
 
     /// The archive's function and its arguments, as words in order.
     pub fn entry(self, buffers: [Buffer; 4], target: u32) -> (*const (), [usize; 8]) {
         use archive::*;
-        let [(s, s_len), (b, b_len), (d, d_len), (a, a_len)] = buffers;
-        let (s, b, d, a) = (s as usize, b as usize, d as usize, a as usize);
-        let target = target as usize;
-        match self {
-            Call::Check => (toqhaymi_check as *const (), [s, s_len, a, a_len, 0, 0, 0, 0]),
-            Call::LoadMost => {
-                (toqhaymi_load_most as *const (), [s, s_len, d, d_len, a, a_len, 0, 0])
-            }
+        let [sheet, start, table, answer] = buffers.map(|(bytes, length)| [bytes as usize, length]);
+        let target = [target as usize];
+        let (function, given) = match self {
+            Call::Check => (toqhaymi_check as *const (), [sheet, answer].concat()),
+            Call::LoadMost => (toqhaymi_load_most as *const (), [sheet, table, answer].concat()),
             Call::LoadTarget => {
-                (toqhaymi_load_target as *const (), [s, s_len, target, d, d_len, a, a_len, 0])
+                (toqhaymi_load_target as *const (), [&sheet[..], &target, &table, &answer].concat())
             }
-            Call::Refit => (toqhaymi_refit as *const (), [s, s_len, b, b_len, d, d_len, a, a_len]),
+            Call::Refit => (toqhaymi_refit as *const (), [sheet, start, table, answer].concat()),
             Call::RefitStep => {
-                (toqhaymi_refit_step as *const (), [s, s_len, b, b_len, d, d_len, a, a_len])
+                (toqhaymi_refit_step as *const (), [sheet, start, table, answer].concat())
             }
-            Call::Tidy => (toqhaymi_tidy as *const (), [s, s_len, d, d_len, a, a_len, 0, 0]),
-        }
+            Call::Tidy => (toqhaymi_tidy as *const (), [sheet, table, answer].concat()),
+        };
+        let mut words = [0; 8];
+        words[..given.len()].copy_from_slice(&given);
+        (function, words)
     }
 
     /// Calls the independent loader.

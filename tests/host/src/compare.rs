@@ -4,7 +4,7 @@ use crate::calls::{self, Call, Outcome};
 use crate::inputs::{input, Input, SAMPLE_INPUTS};
 
 /// One input of one call.
-#[derive(Clone, Copy)]
+#[derive(Clone, Copy, PartialEq, Eq)]
 pub struct Which {
     pub call: Call,
     pub seed: u64,
@@ -53,6 +53,12 @@ pub fn compare(seed: u64, count: u64, mut tell: impl FnMut(Which)) -> Result<(),
         }
         None => Ok(()),
     }
+}
+
+/// The last that such a comparison tells of.
+pub fn last(seed: u64, count: u64) -> Which {
+    let (seed, count) = if count == 0 { (0, SAMPLE_INPUTS) } else { (seed, count) };
+    Which { call: Call::ALL[Call::ALL.len() - 1], seed, index: count - 1 }
 }
 
 /// One input again. What is given is printed before the call, which may not return.
@@ -123,10 +129,12 @@ fn report(which: Which) -> String {
     given(which.call, &input) + &judged(which, &input, calls::ours(which.call, &input))
 }
 
-/// All of an input on which our call did not return.
+/// All of an input on which the process ended: the paper's call may panic again.
 pub fn report_end(which: Which, end: String) -> String {
     let input = input(which.seed, which.index);
-    given(which.call, &input) + &judged(which, &input, Err(end))
+    let judged = std::panic::catch_unwind(|| judged(which, &input, Err(end)));
+    let judged = judged.unwrap_or_else(|_| format!("paper: panicked\n{}", again(which)));
+    given(which.call, &input) + &judged
 }
 
 fn difference(ours: &Outcome, paper: &Outcome) -> String {

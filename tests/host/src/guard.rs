@@ -1,6 +1,7 @@
 //! The comparison in a process of its own, so that a call that crashes or never
 //! returns is reported like any other failure. The process tells on its standard
-//! output which call comes next; the last one told is the one that failed.
+//! output which call comes next; the last one told is the one that failed. Only
+//! when that was the last of all, and the process ended well, was all compared.
 
 use crate::calls::Call;
 use crate::compare::{self, Which};
@@ -12,6 +13,9 @@ use std::time::Duration;
 
 /// A call that takes longer will not return.
 const PATIENCE: Duration = Duration::from_secs(30);
+
+/// The exit status of a process that said itself what failed: main's FAILURE.
+const SAID: i32 = 1;
 
 const TOLD_BYTES: usize = 24;
 
@@ -69,12 +73,12 @@ pub fn compare(seed: u64, count: u64) -> Result<String, String> {
         .spawn()
         .map_err(told)?;
     let inputs = SAMPLE_INPUTS + count;
+    let end = compare::last(seed, count);
     match follow(&mut child).map_err(told)? {
-        (_, Some(status)) if status.success() => {
+        (Some(which), Some(status)) if status.success() && which == end => {
             Ok(format!("{inputs} inputs, {} calls, every refusal of each call met", 6 * inputs))
         }
-        // It said itself what failed.
-        (_, Some(status)) if status.code().is_some() => Err(String::new()),
+        (_, Some(status)) if status.code() == Some(SAID) => Err(String::new()),
         (Some(which), status) => {
             let end = status.map_or("did not return".to_string(), |status| status.to_string());
             Err(compare::report_end(which, end))

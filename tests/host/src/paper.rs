@@ -1,6 +1,7 @@
-//! An independent loader, written from document 01 and from nothing else: the
-//! six calls as the C host makes them, and what the bench program prints.
-//! Each move scans all tones, as the rules read: no heap, no search.
+//! An independent loader, written from document 01: the six calls as the C host
+//! makes them, and what the bench program prints. It keeps each tone's next free
+//! and last held step; each move scans all of them for the earliest free and the
+//! latest held.
 
 pub mod line;
 pub mod run;

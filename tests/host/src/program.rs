@@ -14,6 +14,8 @@ use std::time::Duration;
 /// How many sheets the bench program is given.
 pub const SHEETS: u64 = 600;
 const SEED: u64 = 2;
+/// The examples that there must be.
+const EXAMPLES: [&str; 3] = ["long_cable", "short_cable", "spliced_pair"];
 /// Sheets that any comparison should have, before the random ones.
 const FIXED: u64 = 9;
 
@@ -137,7 +139,8 @@ pub fn example(program: &Path, path: &Path) -> Result<(), String> {
     same(program, &sheet, false, &expected).map_err(told)
 }
 
-/// Every sheet of a folder; a file of any other kind is a mistake.
+/// Every sheet of a folder, the named ones among them; a file of any other kind
+/// is a mistake.
 pub fn examples(program: &Path, folder: &Path) -> Result<String, String> {
     let told = |error: std::io::Error| format!("{}: {error}", folder.display());
     let mut paths: Vec<PathBuf> = Vec::new();
@@ -146,6 +149,11 @@ pub fn examples(program: &Path, folder: &Path) -> Result<String, String> {
     }
     paths.sort();
     let mut count = 0;
+    for name in EXAMPLES {
+        if !paths.contains(&folder.join(name).with_extension("hex")) {
+            return Err(format!("{} has no example {name}", folder.display()));
+        }
+    }
     for path in &paths {
         let other = |extension| paths.contains(&path.with_extension(extension));
         match path.extension().and_then(|extension| extension.to_str()) {
@@ -157,8 +165,5 @@ pub fn examples(program: &Path, folder: &Path) -> Result<String, String> {
             _ => return Err(format!("{} is no example and no output of one", path.display())),
         }
     }
-    match count {
-        0 => Err(format!("{} has no examples", folder.display())),
-        _ => Ok(format!("{count} sheets")),
-    }
+    Ok(format!("{count} sheets"))
 }

@@ -1,7 +1,7 @@
-//! The stack that a call uses. The call runs on a block of memory painted with
-//! a pattern; the lowest byte that lost it shows how deep the call went. It is
-//! done with two patterns, since a call may write a byte that is like one. What
-//! a call sets aside below that byte and never writes is not counted.
+//! The stack that a call uses. The call runs on a block of memory filled with a
+//! pattern; the lowest byte that lost it shows how deep the call went. It is done
+//! with two patterns, since a call may write a byte that is like one. What a call
+//! sets aside below that byte and never writes is not counted.
 
 use crate::calls::{Buffer, Call};
 use std::arch::asm;

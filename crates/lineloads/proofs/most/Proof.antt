@@ -1,13 +1,11 @@
 -- `lineloads::most` meets its contract. Assumes nothing.
-use mathlib.Core.Path.{ap}
 use native.Mathlib.Omega.{arith}
-use Prim.Native.Nat.{ℕ}
 use borrow.Author.Needs.{needs}
-use Rattle.steps.specs.Runs.{Ran, mostBits}
+use Rattle.steps.specs.Runs.{mostBits}
 use Rattle.line.specs.Line.{tones}
 use Rattle.starts.specs.Starts.{Stands}
 use Rattle.lineloads.proofs.Runs.{most-run}
-use Rattle.lineloads.proofs.Outcomes.{Wrote, load-refused, load-done, most-short, most-fits}
+use Rattle.lineloads.proofs.Outcomes.{load-refused, load-done, most-short, most-fits}
 use Rattle.lineloads.proofs.most.Statement.{statement}
 use Rattle.lineloads.proofs.most.Tie as tie
 

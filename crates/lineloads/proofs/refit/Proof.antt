@@ -1,21 +1,19 @@
 -- `lineloads::refit` meets its contract. Assumes nothing.
 use mathlib.Core.List.{List}
-use mathlib.Core.Option.{Option, none, some}
+use mathlib.Core.Option.{some}
 use mathlib.Core.Path.{_≡_, ap, sym, _∙_}
 use native.Mathlib.Omega.{arith}
-use Prim.Native.Nat.{ℕ, _<_}
-use lib.ListN.{length}
+use Prim.Native.Nat.{ℕ}
 use borrow.Author.Needs.{needs}
 use Rattle.steps.specs.Tones.{KeepsLimits}
 use Rattle.line.specs.declared.Line.{Line}
 use Rattle.line.specs.Line.{tones}
-use Rattle.search.specs.declared.Found.{Found}
 use Rattle.search.specs.declared.Found.the-variants.{Nothing, Tone}
 use Rattle.search.specs.Flat.{found}
 use Rattle.flatten.proofs.Tones.{arrays-steps}
 use Rattle.starts.specs.Starts.{firstAbove}
 use Rattle.starts.proofs.Above.{First, first-above, none-keeps}
-use Rattle.lineloads.proofs.Outcomes.{Wrote, refit-refused, refit-done, refit-short, refit-length, refit-above, refit-fits}
+use Rattle.lineloads.proofs.Outcomes.{refit-refused, refit-done, refit-short, refit-length, refit-above, refit-fits}
 use Rattle.lineloads.proofs.refit.Statement.{statement}
 use Rattle.lineloads.proofs.refit.Tie as tie
 

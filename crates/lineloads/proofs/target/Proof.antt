@@ -1,13 +1,12 @@
 -- `lineloads::target` meets its contract. Assumes nothing.
 use mathlib.Core.Path.{_≡_, refl, sym, _∙_}
 use native.Mathlib.Omega.{arith}
-use Prim.Native.Nat.{ℕ}
 use borrow.Author.Needs.{needs}
-use Rattle.steps.specs.Tones.{Table, noBits, totalBits}
+use Rattle.steps.specs.Tones.{noBits, totalBits}
 use Rattle.steps.specs.Runs.{addStep, run}
 use Rattle.line.specs.Line.{tones}
 use Rattle.lineruns.proofs.Standing.{stands-bits}
-use Rattle.lineloads.proofs.Outcomes.{Wrote, load-refused, load-done, target-short, target-missed, target-carried}
+use Rattle.lineloads.proofs.Outcomes.{load-refused, load-done, target-short, target-missed, target-carried}
 use Rattle.lineloads.proofs.target.Statement.{statement}
 use Rattle.lineloads.proofs.target.Tie as tie
 

@@ -4,7 +4,7 @@ use super::line::{cost, limit, power, Kind, Line, TONES};
 use super::{refuse, Refusal, BYTES_A_TONE};
 
 /// A step: its size, then its tone; compared in that order.
-type Step = (u64, usize);
+pub type Step = (u64, usize);
 
 /// The sizes of a tone that has no free step, and of one that has no held step.
 const NO_FREE: u64 = u64::MAX;
@@ -87,7 +87,7 @@ impl Running {
         self.held[tone] = if bits > 0 { self.step_at(tone, bits - 1) } else { NO_HELD };
     }
 
-    fn earliest_free(&self) -> Option<Step> {
+    pub fn earliest_free(&self) -> Option<Step> {
         let mut earliest = (NO_FREE, 0);
         for (tone, &size) in self.free[..self.tones].iter().enumerate() {
             if size < earliest.0 {
@@ -97,7 +97,7 @@ impl Running {
         (earliest.0 != NO_FREE).then_some(earliest)
     }
 
-    fn latest_held(&self) -> Option<Step> {
+    pub fn latest_held(&self) -> Option<Step> {
         let mut latest = (NO_HELD, 0);
         for (tone, &size) in self.held[..self.tones].iter().enumerate() {
             if size >= latest.0 {

@@ -1,9 +1,10 @@
 //! The independent loader on document 01's own cases, and by exhaustion.
 
 use super::line::{cost, limit, read, Kind, Tone, LARGEST_POWER};
-use super::run::Running;
+use super::run::{Running, Step};
 use super::*;
 use crate::random::Random;
+use std::collections::BTreeSet;
 
 /// The sheet of document 01 at a budget.
 fn sample(budget: u64) -> Vec<u8> {
@@ -122,7 +123,68 @@ fn least_powers(run: &Running) -> Vec<u64> {
     }
 }
 
-/// On small lines no table does better, and a re-fit ends where a loading does.
+/// The steps of all tones from one table up to another, in order.
+fn steps(run: &Running, from: &[u8], to: &[u8]) -> BTreeSet<Step> {
+    let mut steps = BTreeSet::new();
+    for tone in 0..run.tones {
+        let power = |bits| line::power(run.kind[tone], run.cost[tone], bits);
+        steps.extend((from[tone]..to[tone]).map(|bits| (power(bits + 1) - power(bits), tone)));
+    }
+    steps
+}
+
+fn held(run: &Running) -> BTreeSet<Step> {
+    steps(run, &[0; line::TONES], &run.bits)
+}
+
+fn free(run: &Running) -> BTreeSet<Step> {
+    steps(run, &run.bits, &run.limit)
+}
+
+/// The two searches, against all steps of all tones.
+fn check_searches(run: &Running) {
+    assert_eq!(run.earliest_free().as_ref(), free(run).first());
+    assert_eq!(run.latest_held().as_ref(), held(run).last());
+}
+
+/// Each tone's limit, against every number of bits up to its cap.
+fn check_limits(line: &Line, run: &Running) {
+    for number in 0..line.tones {
+        let passes = |tone: &Tone, bits: u8| {
+            !line.is_silenced(number) && line::power(tone.kind, run.cost[number], bits) <= tone.mask
+        };
+        let largest = line.described[number]
+            .and_then(|tone| (0..=tone.cap).filter(|&bits| passes(&tone, bits)).max());
+        assert_eq!(run.limit[number], largest.unwrap_or(0));
+    }
+}
+
+/// The rule of the re-fit over all held and all free steps: how many moves it
+/// makes, and what is held at its end.
+fn plain_refit(run: &Running) -> (u64, BTreeSet<Step>) {
+    let (mut held, mut free) = (held(run), free(run));
+    for moves in 0.. {
+        let power: u64 = held.iter().map(|step| step.0).sum();
+        let (latest, earliest) = (held.last().copied(), free.first().copied());
+        let exchange = latest.zip(earliest).is_some_and(|(latest, earliest)| earliest < latest);
+        let over = power > run.budget;
+        let fits = earliest.is_some_and(|step| power + step.0 <= run.budget);
+        if !exchange && !over && !fits {
+            return (moves, held);
+        }
+        if exchange || over {
+            free.extend(held.pop_last());
+        }
+        if exchange || fits {
+            free.remove(&earliest.unwrap());
+            held.extend(earliest);
+        }
+    }
+    unreachable!()
+}
+
+/// On small lines no table does better, and a re-fit ends where a loading does,
+/// in as many moves as its rule makes.
 #[test]
 fn best_of_all_tables() {
     let mut random = Random::new(8, 0);
@@ -130,17 +192,31 @@ fn best_of_all_tables() {
         let sheet = crate::sheets::small(7, index);
         let line = read(&sheet).unwrap();
         let mut run = Running::nothing(&line);
-        let limits = &run.limit[..line.tones];
-        let start: Vec<u8> =
-            limits.iter().map(|&bits| random.between(0, bits.into()) as u8).collect();
-        let mut refitted = Running::from_start(&line, &start).unwrap();
+        check_limits(&line, &run);
+        let limits = run.limit;
         let least = least_powers(&run);
+        check_searches(&run);
         while run.add() {
             assert_eq!(run.total_power, least[run.total_bits as usize]);
+            check_searches(&run);
         }
         let next = least.get(run.total_bits as usize + 1);
         assert!(next.is_none_or(|power| *power > line.budget), "sheet {sheet:02x?}");
-        while refitted.refit_step() {}
-        assert_eq!(refitted.bits, run.bits, "sheet {sheet:02x?} start {start:?}");
+        for _ in 0..4 {
+            let start: Vec<u8> = limits[..line.tones]
+                .iter()
+                .map(|&bits| random.between(0, bits.into()) as u8)
+                .collect();
+            let mut refitted = Running::from_start(&line, &start).unwrap();
+            let plain = plain_refit(&refitted);
+            check_searches(&refitted);
+            let mut moves = 0;
+            while refitted.refit_step() {
+                check_searches(&refitted);
+                moves += 1;
+            }
+            assert_eq!(refitted.bits, run.bits, "sheet {sheet:02x?} start {start:?}");
+            assert_eq!((moves, held(&refitted)), plain, "sheet {sheet:02x?} start {start:?}");
+        }
     }
 }

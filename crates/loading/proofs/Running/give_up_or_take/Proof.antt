@@ -28,7 +28,7 @@ returns c =
     let k = can (c .before .before .before .before) in (
       λ T t S.
           rw (gives-up S (a .args .budget) (a .args .latest) (found (a .args .earliest)) (c .before .before .before .before .if1 .taken))
-          (hands-moved S (rw (c .give-up .ensures .0 .0)) (give-up-stands S (held-found S (a .pre .2) refl) (k .sized) (omega (arith, k .inside, c .give-up .ensures .0 .1)))),
+          (hands-moved S (c .give-up .ensures .0 .0) (give-up-stands S (held-found S (a .pre .2) refl) (k .sized) (omega (arith, k .inside, c .give-up .ensures .0 .1)))),
       c .give-up .ensures .1,
     )
 

@@ -62,7 +62,7 @@ give-up-requires c κs = let k = can-h (c .before .before .before .before .befor
 
 -- and once the held step is given up
 then-f : (c : tie.After-give-up)
-    → let a = c .before .before .before .before .before .before .before in let s = a .before .before .before .before .before .before in CanTake (s .args .count) (s .args .limits .now) (s .args .firsts .now) (s .args .doublings .now) (c .give-up .result) (a .before .earliest .given .0 .0) (getD (s .args .free .now) (a .before .earliest .given .0 .0) 0)
+    → let a = c .before .before .before .before .before .before .before in let s = a .before .before .before .before .before .before in CanTake (s .args .count) (s .args .limits .now) (s .args .firsts .now) (s .args .doublings .now) (c .give-up .result .running) (a .before .earliest .given .0 .0) (getD (s .args .free .now) (a .before .earliest .given .0 .0) 0)
 then-f c =
     let a = c .before .before .before .before .before .before .before in
     let p = a .before .before .before .before .before .before .pre in
@@ -71,20 +71,20 @@ then-f c =
     (can-exchange (p .0) (p .3) (a .before .earliest .given .1) (p .2) (a .before .before .before .before .latest .given .1) (can-f a .sized) (can-h a .sized) (c .before .before .before .before .comes-before .ensures .0 (c .before .before .before .if1 .taken)) (rw (e .1) (can-h a .inside)))
 
 take-requires : tie.Need-take-requires
-take-requires c κs = let k = then-f (c .before .before) in (c .before .before .before .before .before .before .before .before .before .before .before .before .before .before .before .pre .0 .in-range, c .before .before .give-up .ensures .1, k .tone, k .free, k .below, omega (arith, k .bounded))
+take-requires c κs = let k = then-f (c .before .before .before) in (c .before .before .before .before .before .before .before .before .before .before .before .before .before .before .before .before .pre .0 .in-range, c .before .before .before .give-up .ensures .1, k .tone, k .free, k .below, omega (arith, k .bounded))
 
 returns-3 : tie.Need-returns-3
 returns-3 c =
-    let a = c .before .before .before .before .before .before .before .before .before .before in
+    let a = c .before .before .before .before .before .before .before .before .before .before .before in
     let p = a .before .before .before .before .before .before .pre in
     let up = can-f a in
     let down = can-h a in
-    let gave = c .before .before .before .give-up .ensures .0 in
+    let gave = c .before .before .before .before .give-up .ensures .0 in
     let took = c .take .ensures .0 in (
       λ T t S.
           let E = free-found S (p .3) (a .before .earliest .given .1) in
           let L = held-found S (p .2) (a .before .before .before .before .latest .given .1) in
-          let B = earlier-before S E L (up .sized) (down .sized) (c .before .before .before .before .before .before .before .comes-before .ensures .0 (c .before .before .before .before .before .before .if1 .taken)) in
+          let B = earlier-before S E L (up .sized) (down .sized) (c .before .before .before .before .before .before .before .before .comes-before .ensures .0 (c .before .before .before .before .before .before .before .if1 .taken)) in
           rw (a .before .before .before .before .latest .given .1, a .before .earliest .given .1, exchanges S (a .before .before .before .before .before .before .args .budget) _ _ B)
           (hands-moved S (rw (took .0, gave .0)) (exchange-stands S E L (up .sized) (down .sized) B (rw (gave .1) (down .inside)) (omega (arith, up .inside, rw (gave .0) at (took .1))))),
       c .take .ensures .1,

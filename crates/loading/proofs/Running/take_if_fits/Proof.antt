@@ -48,7 +48,7 @@ take-requires c κs = let k = can (c .before .before .before .before .before) in
 returns-3 : tie.Need-returns-3
 returns-3 c =
     let k = can (c .before .before .before .before .before .before) in (
-      λ T t S. fitting S (c .before .before .before .before .before .before .before .before .before .pre .2) (c .before .before .before .before .before .before .before .earliest .given .1) (k .sized) (c .before .before .before .if1 .left) (omega (arith, k .inside, c .take .ensures .0 .1)) (rw (c .take .ensures .0 .0)),
+      λ T t S. fitting S (c .before .before .before .before .before .before .before .before .before .pre .2) (c .before .before .before .before .before .before .before .earliest .given .1) (k .sized) (c .before .before .before .if1 .left) (omega (arith, k .inside, c .take .ensures .0 .1)) (c .take .ensures .0 .0),
       c .take .ensures .1,
     )
 
