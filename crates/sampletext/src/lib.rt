@@ -3,9 +3,10 @@
 // Two hex digits are a byte, with blanks between or not. `hh*n` repeats the byte hh n times, and
 // `(..)*n` what stands between, which has no such group in it. `++` is a byte that counts from 0, one
 // more each time, and `==` is that byte again. Any other character is passed over.
-ghost use Prim.Native.Nat.{_+_, _≤_, _<_};
+ghost use Prim.Native.Nat.{ℕ, _+_, _≤_, _<_};
+ghost use mathlib.Core.Bool.{true};
 ghost use mathlib.Core.Path.{_≡_};
-ghost use lib.ListN.{length};
+ghost use lib.ListN.{length, getD};
 ghost use Rattle.io.specs.Counts.{Counts};
 
 // Room for a sheet, above the 4,096 bytes that a sheet may have.
@@ -294,7 +295,9 @@ pub fn within(n: usize, buffer: &[u8]) -> usize
 }
 
 // Whether two buffers hold the same bytes.
-pub fn same(a: &[u8; ROOM], b: &[u8; ROOM]) -> bool {
+pub fn same(a: &[u8; ROOM], b: &[u8; ROOM]) -> bool
+    ensures { λ r. ⌜ (r ≡ true → (i : ℕ) → i < 4200 → getD (now (a .entry)) i 0 ≡ getD (now (b .entry)) i 0) ⌝ }
+{
     let mut i = 0;
     while i < ROOM {
         if a[i] != b[i] {

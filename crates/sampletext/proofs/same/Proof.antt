@@ -1,17 +1,22 @@
--- `sampletext::same` meets its contract. The loop's measure is the number of bytes that are left. Assumes nothing.
-use Prim.Native.Nat.{_-_}
+-- `sampletext::same` meets its contract: between its turns the bytes passed are the same. Assumes nothing.
+use mathlib.Core.Bool.{true≢false}
+use mathlib.Core.Path.{_≡_, sym}
+use Prim.Native.Nat.{ℕ, _-_, _≤_, _<_}
+use native.Mathlib.Omega.{arith}
+use borrow.Author.Count.{below-more}
 use borrow.Author.Needs.{needs}
+use lib.ListN.{getD}
 use Rattle.sampletext.proofs.same.Statement.{statement}
 use Rattle.sampletext.proofs.same.Tie as tie
 
 abbrev Inv-loop : tie.InvT-loop
-Inv-loop a b i₀ i = Unit
+Inv-loop a b i₀ i = (j : ℕ) → j < i → getD a j 0 ≡ getD b j 0
 
 abbrev μ-loop : tie.MeasureT-loop
 μ-loop a b i₀ i = 4200 - i
 
 loop-holds : tie.Need-loop-holds Inv-loop μ-loop
-loop-holds c = search needs
+loop-holds c = λ j l. absurd (omega arith)
 
 element-copy-out-if1 : tie.Need-element-copy-out-if1 Inv-loop μ-loop
 element-copy-out-if1 c = search needs
@@ -20,7 +25,7 @@ element-copy-out-if1-2 : tie.Need-element-copy-out-if1-2 Inv-loop μ-loop
 element-copy-out-if1-2 c = search needs
 
 returns : tie.Need-returns Inv-loop μ-loop
-returns c = search needs
+returns c = λ e. absurd (true≢false (sym e))
 
 add-i : tie.Need-add-i Inv-loop μ-loop
 add-i c = search needs
@@ -29,10 +34,10 @@ loop-less : tie.Need-loop-less Inv-loop μ-loop
 loop-less c = search needs
 
 loop-again : tie.Need-loop-again Inv-loop μ-loop
-loop-again c = search needs
+loop-again c = below-more _ _ (c .before .before .before .before .loop .inv) (c .if1 .left)
 
 returns-2 : tie.Need-returns-2 Inv-loop μ-loop
-returns-2 c = search needs
+returns-2 c = λ e i l. c .before .loop .inv i (omega (arith, c .loop-test .left))
 
 pub same-spec : {M : Type 1} → statement M
 same-spec =
