@@ -14,15 +14,15 @@ use line::Tone;
 // Why a sheet, or a call, is turned down: document 01's list, in its order, each case with its place where that is not 0.
 pub enum Refusal {
     SheetTooLong,
-    SheetEnds(u32),
-    CommandNotAllowed(u32),
-    OperandOutOfRange(u32),
-    ToneBeyondLine(u32),
-    ToneRepeated(u32),
-    BytesAfterEnd(u32),
+    SheetEnds(u16),
+    CommandNotAllowed(u16),
+    OperandOutOfRange(u16),
+    ToneBeyondLine(u16),
+    ToneRepeated(u16),
+    BytesAfterEnd(u16),
     DestinationTooSmall,
     StartLengthWrong,
-    StartAboveLimit(u32),
+    StartAboveLimit(u16),
     TargetNotCarried,
 }
 
@@ -51,15 +51,15 @@ pub fn refusal_place(refusal: Refusal) -> u32
 {
     match refusal {
         Refusal::SheetTooLong => 0,
-        Refusal::SheetEnds(place) => place,
-        Refusal::CommandNotAllowed(place) => place,
-        Refusal::OperandOutOfRange(place) => place,
-        Refusal::ToneBeyondLine(place) => place,
-        Refusal::ToneRepeated(place) => place,
-        Refusal::BytesAfterEnd(place) => place,
+        Refusal::SheetEnds(place) => place as u32,
+        Refusal::CommandNotAllowed(place) => place as u32,
+        Refusal::OperandOutOfRange(place) => place as u32,
+        Refusal::ToneBeyondLine(place) => place as u32,
+        Refusal::ToneRepeated(place) => place as u32,
+        Refusal::BytesAfterEnd(place) => place as u32,
         Refusal::DestinationTooSmall => 0,
         Refusal::StartLengthWrong => 0,
-        Refusal::StartAboveLimit(place) => place,
+        Refusal::StartAboveLimit(place) => place as u32,
         Refusal::TargetNotCarried => 0,
     }
 }
@@ -86,7 +86,7 @@ fn out_of_range(place: usize) -> Command
     requires { ⌜ place ≤ 4096 ⌝ }
     ensures { λ r. ⌜ r ≡ Refused (OperandOutOfRange place) ⌝ }
 {
-    Command::Refused(Refusal::OperandOutOfRange(place as u32))
+    Command::Refused(Refusal::OperandOutOfRange(place as u16))
 }
 
 // One of the first three commands, all of whose bytes are there.
@@ -145,10 +145,10 @@ fn tone_command(s: &[u8], at: usize, size: u16, taken: bool, is_single: bool) ->
 {
     let tone = s[at + 1];
     if size <= tone as u16 {
-        return Command::Refused(Refusal::ToneBeyondLine((at + 1) as u32));
+        return Command::Refused(Refusal::ToneBeyondLine((at + 1) as u16));
     }
     if taken {
-        return Command::Refused(Refusal::ToneRepeated((at + 1) as u32));
+        return Command::Refused(Refusal::ToneRepeated((at + 1) as u16));
     }
     let noise = bigendian::number_at(s, at + 2, 2);
     if noise < 1 {
@@ -187,7 +187,7 @@ fn silence_command(s: &[u8], at: usize, size: u16) -> Command
     }
     let map = bigendian::number_at(s, at + 2, 4) as u32;
     if silence::names_beyond(size, word, map) {
-        return Command::Refused(Refusal::ToneBeyondLine((at + 2) as u32));
+        return Command::Refused(Refusal::ToneBeyondLine((at + 2) as u16));
     }
     Command::Silence(word, map)
 }
@@ -237,7 +237,7 @@ pub fn decode(s: &[u8], at: usize, stage: u8, size: u16, taken: bool) -> Decoded
 {
     let length = s.len();
     let ends = Decoded {
-        command: Command::Refused(Refusal::SheetEnds(length as u32)),
+        command: Command::Refused(Refusal::SheetEnds(length as u16)),
         next: at,
     };
     if length <= at {
@@ -247,7 +247,7 @@ pub fn decode(s: &[u8], at: usize, stage: u8, size: u16, taken: bool) -> Decoded
     let bytes = command_bytes(stage, code);
     if bytes == 0 {
         return Decoded {
-            command: Command::Refused(Refusal::CommandNotAllowed(at as u32)),
+            command: Command::Refused(Refusal::CommandNotAllowed(at as u16)),
             next: at,
         };
     }

@@ -69,7 +69,7 @@ pub fn refit(line: Line, start: &[u8], most: u32, table: &mut [u8]) -> Refitted
     let limits = arrays.limits;
     let above = starts::first_above(start, &limits);
     match above {
-        Found::Tone(tone) => Refitted::Refused(Refusal::StartAboveLimit(tone as u32)),
+        Found::Tone(tone) => Refitted::Refused(Refusal::StartAboveLimit(tone as u16)),
         Found::Nothing => {
             let ran = lineruns::refit(line, arrays, start, most);
             let running = ran.running;

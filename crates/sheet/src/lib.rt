@@ -50,71 +50,71 @@ fn byte_after(s: &[u8], at: usize) -> usize
 pub fn read(s: &[u8]) -> Sheet
     ensures { λ r. ⌜ readingOf r ≡ reading (now (s .entry)) ⌝ }
 {
-    let mut line = Line {
-        size: 0,
-        gap: 0,
-        budget: 0,
-        entries: [Entry {
-            slot: Slot::Undescribed,
-        }; 256],
-        maps: [0; 8],
-    };
-    if 4096 < s.len() {
-        return Sheet {
-            answer: Answer::Refused(Refusal::SheetTooLong),
-            line: line,
-        };
-    }
+    let mut size: u16 = 0;
+    let mut gap: u16 = 0;
+    let mut budget: u64 = 0;
+    let mut entries = [Entry {
+        slot: Slot::Undescribed,
+    }; 256];
+    let mut maps: [u32; 8] = [0; 8];
+    let mut answer = Answer::Accepted;
     let mut at: usize = 0;
+    // How many of the first three commands are read; 4 once the reading has ended.
     let mut stage: u8 = 0;
-    loop {
+    if 4096 < s.len() {
+        answer = Answer::Refused(Refusal::SheetTooLong);
+        stage = 4;
+    }
+    while stage < 4 {
         let after = byte_after(s, at);
-        let entry = line.entries[after];
+        let entry = entries[after];
         let taken = is_described(entry);
-        let decoded = command::decode(s, at, stage, line.size, taken);
+        let decoded = command::decode(s, at, stage, size, taken);
         let command = decoded.command;
         at = decoded.next;
         match command {
             Command::End => {
                 if at < s.len() {
-                    return Sheet {
-                        answer: Answer::Refused(Refusal::BytesAfterEnd(at as u32)),
-                        line: line,
-                    };
+                    answer = Answer::Refused(Refusal::BytesAfterEnd(at as u16));
                 }
-                return Sheet {
-                    answer: Answer::Accepted,
-                    line: line,
-                };
+                stage = 4;
             }
             Command::Refused(refusal) => {
-                return Sheet {
-                    answer: Answer::Refused(refusal),
-                    line: line,
-                };
+                answer = Answer::Refused(refusal);
+                stage = 4;
             }
-            Command::Size(size) => {
-                line.size = size;
+            Command::Size(n) => {
+                size = n;
                 stage = 1;
             }
-            Command::Gap(gap) => {
-                line.gap = gap;
+            Command::Gap(n) => {
+                gap = n;
                 stage = 2;
             }
-            Command::Budget(budget) => {
-                line.budget = budget;
+            Command::Budget(n) => {
+                budget = n;
                 stage = 3;
             }
             Command::Describe(tone, t) => {
-                line.entries[tone as usize] = Entry {
+                entries[tone as usize] = Entry {
                     slot: Slot::Described(t),
                 };
             }
             Command::Silence(word, map) => {
-                let joined = line.maps[word as usize] | map;
-                line.maps[word as usize] = joined;
+                let joined = maps[word as usize] | map;
+                maps[word as usize] = joined;
             }
         }
+    }
+    Sheet {
+        answer: answer,
+        line: Line {
+            size: size,
+            gap: gap,
+            budget: budget,
+            entries: entries,
+            maps: maps,
+        },
     }
 }
 
