@@ -1,7 +1,6 @@
 -- Arrays filled from the front: what the turns of `flatten` keep.
 -- Assumes nothing.
 use mathlib.Core.Path.{_≡_, _∙_}
-use mathlib.Core.Bool.{Bool, true, false}
 use mathlib.Core.List.{List}
 use Prim.Native.Nat.{ℕ, _+_, _≤_, _<_}
 use native.Mathlib.Omega.{arith}
@@ -9,10 +8,6 @@ use borrow.Author.Count.{below-more}
 use lib.ListN.{length, getD, set, length-set}
 use lib.Seq.{getD-set-same, getD-set-other}
 use Rattle.line.specs.declared.Line.{Line}
-use Rattle.line.specs.declared.Slot.{Slot}
-use Rattle.line.specs.declared.Slot.the-variants.{Undescribed, Described}
-use Rattle.line.specs.Line.{stepsOfSlot}
-use Rattle.line.proofs.Growth.{doublings-high}
 use Rattle.flatten.specs.declared.Arrays.{Arrays}
 use Rattle.flatten.specs.Arrays.{stepsAt, Holds}
 
@@ -32,20 +27,14 @@ filled-more {f} {xs} {n} F v inside e = record {
 pub record Filling (l : Line) (a : Arrays) (i : ℕ) : Type 0 where
   pub inside : i ≤ l .size
   pub limits : Filled (λ k. stepsAt l k .limit) (a .limits) i
-  pub firsts : Filled (λ k. stepsAt l k .first) (a .firsts) i
+  pub costs : Filled (λ k. stepsAt l k .cost) (a .costs) i
   pub doublings : Filled (λ k. stepsAt l k .doublings) (a .doublings) i
 
 -- all of them are
 pub filling-holds : {l : Line} {a : Arrays} {i : ℕ} → Filling l a i → l .size ≤ i → Holds l a
 filling-holds F all = record {
-  sizes = (F .limits .sized, F .firsts .sized, F .doublings .sized);
+  sizes = (F .limits .sized, F .costs .sized, F .doublings .sized);
   limit-at = λ k h. F .limits .at k (omega arith);
-  first-at = λ k h. F .firsts .at k (omega arith);
+  cost-at = λ k h. F .costs .at k (omega arith);
   doublings-at = λ k h. F .doublings .at k (omega arith);
 }
-
--- a step grows by few doublings
-pub doublings-few : (g : ℕ) (s : Slot) (q : Bool) → stepsOfSlot g s q .doublings ≤ 2
-doublings-few g s true = omega arith
-doublings-few g Undescribed false = omega arith
-doublings-few g (Described t) false = doublings-high (t .kind)

@@ -1,12 +1,13 @@
--- What arrays that hold a line tell of its tones: their ranges, their limits and their steps.
+-- What arrays that hold a line tell of its tones: their ranges, limits, steps and powers.
 -- Assumes nothing.
 use mathlib.Core.Path.{_≡_, refl, sym, _∙_}
 use mathlib.Core.Bool.{Bool, true, false}
-use Prim.Native.Nat.{ℕ, _+_, _*_, _^_, _≤_, _<_}
-use native.Mathlib.Nat.{lt-of-lt-of-le}
+use mathlib.Core.List.{List}
+use Prim.Native.Nat.{ℕ, suc, _-_, _*_, _^_, _≤_, _<_}
+use native.Mathlib.Nat.{mul-le-mul-left, le-trans}
 use native.Mathlib.Omega.{arith}
 use lib.ListN.{getD}
-use lib.Pow.{pow-mono, shl-lt}
+use lib.Pow.{pow-pos}
 use Rattle.silence.specs.Map.{silenced}
 use Rattle.steps.specs.Tones.{step}
 use Rattle.line.specs.declared.Slot.{Slot}
@@ -14,36 +15,35 @@ use Rattle.line.specs.declared.Slot.the-variants.{Undescribed, Described}
 use Rattle.line.specs.declared.Steps.{Steps}
 use Rattle.line.specs.declared.Line.{Line}
 use Rattle.line.specs.Tone.{Gap, cost, doublings, limit}
-use Rattle.line.specs.Line.{blank, limitOf, tones, SlotInRange, stepsOfSlot, LineInRange}
+use Rattle.line.specs.Line.{blank, limitOf, tones, SlotInRange, LineInRange, noSteps, stepsOfSlot, powerIn, PowersInRange, Powers}
 use Rattle.line.proofs.Ceiling.{cost-range}
-use Rattle.line.proofs.Growth.{step-is, step-positive, doublings-high, shift-at-most}
+use Rattle.line.proofs.Growth.{doublings-low, shift-at-most}
 use Rattle.line.proofs.Limits.{limit-is, cap-high}
-use Rattle.line.proofs.Loads.{line-step}
+use Rattle.line.proofs.Loads.{line-power}
 use Rattle.flatten.specs.declared.Arrays.{Arrays}
 use Rattle.flatten.specs.Arrays.{Holds, InRange, stepsAt}
 
 -- the ranges of what the runs need of one tone
 record Small (s : Steps) : Type 0 where
-  first-low : 0 < s .limit → 0 < s .first
-  first-high : s .first < 2 ^ 26
+  cost-low : 0 < s .limit → (0 < s .cost) × (0 < s .doublings)
+  cost-high : s .cost < 2 ^ 24
   shift-high : s .doublings * s .limit ≤ 15
   limit-high : s .limit ≤ 15
 
+none-small : Small noSteps
+none-small = record { cost-low = λ h. omega arith; cost-high = omega arith; shift-high = omega arith; limit-high = omega arith }
+
 small : (g : ℕ) (s : Slot) (q : Bool) → Gap g → SlotInRange s → Small (stepsOfSlot g s q)
-small g s true G I = record { first-low = λ h. omega arith; first-high = omega arith; shift-high = omega arith; limit-high = omega arith }
-small g Undescribed false G I = record { first-low = λ h. omega arith; first-high = omega arith; shift-high = omega arith; limit-high = omega arith }
+small g s true G I = none-small
+small g Undescribed false G I = none-small
 small g (Described t) false G I =
     let w = cost g t in
-    let d = doublings t in
-    let few : d ≤ 2 = doublings-high (t .kind) in
-    let none : d * 0 ≡ 0 = omega arith in
-    let high : w * 2 ^ d < 2 ^ 26 =
-    lt-of-lt-of-le (shl-lt 24 d (omega (arith, cost-range g t G I .high))) (pow-mono {i = 24 + d} {j = 26} (omega arith)) in
+    let range = cost-range g t G I in
     let under = limit-is t w .at-most in
     record {
-      first-low = λ h. step-positive t w (cost-range g t G I .low);
-      first-high = rw (step-is t w 0, none) (omega arith);
-      shift-high = shift-at-most t d (limit t w) refl under I;
+      cost-low = λ h. (range .low, doublings-low (t .kind));
+      cost-high = omega (arith, range .high);
+      shift-high = shift-at-most t (doublings t) (limit t w) refl under I;
       limit-high = omega (arith, under, cap-high I);
     }
 
@@ -55,7 +55,11 @@ limit-same g (Described t) false = refl
 -- the limits and steps that the runs go by, as the arrays give them
 pub record SameSteps (l : Line) (a : Arrays) : Type 0 where
   pub limits : (i : ℕ) → i < l .size → tones l .limit i ≡ getD (a .limits) i 0
-  pub steps : (i b : ℕ) → i < l .size → b < tones l .limit i → step (tones l) i b ≡ getD (a .firsts) i 0 * 2 ^ (getD (a .doublings) i 0 * b)
+  pub steps : (i b : ℕ) → i < l .size → b < tones l .limit i → step (tones l) i b ≡ getD (a .costs) i 0 * 2 ^ (getD (a .doublings) i 0 * suc b) - getD (a .costs) i 0 * 2 ^ (getD (a .doublings) i 0 * b)
+
+-- a step by the two powers: the cost that both leave out makes no difference
+less-cost : (w d b : ℕ) → powerIn w d (suc b) - powerIn w d b ≡ w * 2 ^ (d * suc b) - w * 2 ^ (d * b)
+less-cost w d b = omega (arith, mul-le-mul-left w (pow-pos (d * b)))
 
 module _ (l : Line) (ready : LineInRange l) (a : Arrays) (h : Holds l a) where
   small-at : (i : ℕ) → i < l .size → Small (stepsAt l i)
@@ -64,14 +68,32 @@ module _ (l : Line) (ready : LineInRange l) (a : Arrays) (h : Holds l a) where
 
   pub arrays-in-range : InRange l a
   arrays-in-range = record {
-    first-low = λ i il. rw (h .limit-at i il, h .first-at i il) (small-at i il .first-low);
-    first-high = λ i il. rw (h .first-at i il) (small-at i il .first-high);
+    cost-low = λ i il. rw (h .limit-at i il, h .cost-at i il, h .doublings-at i il) (small-at i il .cost-low);
+    cost-high = λ i il. rw (h .cost-at i il) (small-at i il .cost-high);
     shift-high = λ i il. rw (h .doublings-at i il, h .limit-at i il) (small-at i il .shift-high);
     limit-high = λ i il. rw (h .limit-at i il) (small-at i il .limit-high);
   }
 
+  limit-at : (i : ℕ) → i < l .size → tones l .limit i ≡ getD (a .limits) i 0
+  limit-at i il = limit-same (l .gap) (getD (l .entries) i blank .slot) (silenced (l .maps) i) ∙ sym (h .limit-at i il)
+
+  power-at : (i b : ℕ) → i < l .size → b ≤ tones l .limit i → tones l .power i b ≡ powerIn (getD (a .costs) i 0) (getD (a .doublings) i 0) b
+  power-at i b il bl = rw (h .cost-at i il, h .doublings-at i il) (line-power l ready i b bl)
+
   pub arrays-steps : SameSteps l a
+  unfolding step
   arrays-steps = record {
-    limits = λ i il. limit-same (l .gap) (getD (l .entries) i blank .slot) (silenced (l .maps) i) ∙ sym (h .limit-at i il);
-    steps = λ i b il bl. rw (h .first-at i il, h .doublings-at i il) (line-step l (ready) i b il bl);
+    limits = limit-at;
+    steps = λ i b il bl. rw (power-at i (suc b) il bl, power-at i b il (omega arith)) (less-cost (getD (a .costs) i 0) (getD (a .doublings) i 0) b);
   }
+
+  -- the powers of bits within the limits
+  module _ (bits : List ℕ) (under : (i : ℕ) → i < l .size → getD bits i 0 ≤ tones l .limit i) where
+    pub arrays-powers-in-range : PowersInRange (l .size) (a .costs) (a .doublings) bits
+    arrays-powers-in-range = record {
+      cost-high = arrays-in-range .cost-high;
+      shift-high = λ i il. le-trans (mul-le-mul-left (getD (a .doublings) i 0) (rw (limit-at i il) at (under i il))) (arrays-in-range .shift-high i il);
+    }
+
+    pub arrays-powers : Powers (tones l) (a .costs) (a .doublings) bits
+    arrays-powers = record { same-power = λ i il. power-at i (getD bits i 0) il (under i il) }

@@ -15,14 +15,14 @@ stepsAt l i = stepsOf (l .gap) (getD (l .entries) i blank) (silenced (l .maps) i
 
 -- The arrays hold that of each tone below N.
 pub record Holds (l : Line) (a : Arrays) : Type 0 where
-  pub sizes : (length (a .limits) ≡ 256) × (length (a .firsts) ≡ 256) × (length (a .doublings) ≡ 256)
+  pub sizes : (length (a .limits) ≡ 256) × (length (a .costs) ≡ 256) × (length (a .doublings) ≡ 256)
   pub limit-at : (i : ℕ) → i < l .size → getD (a .limits) i 0 ≡ stepsAt l i .limit
-  pub first-at : (i : ℕ) → i < l .size → getD (a .firsts) i 0 ≡ stepsAt l i .first
+  pub cost-at : (i : ℕ) → i < l .size → getD (a .costs) i 0 ≡ stepsAt l i .cost
   pub doublings-at : (i : ℕ) → i < l .size → getD (a .doublings) i 0 ≡ stepsAt l i .doublings
 
--- The ranges of the arrays: every step below a limit is above 0 and under 2^41.
+-- The ranges of the arrays: a tone that takes bits has a cost and a doubling, and every power within a limit is under 2^39.
 pub record InRange (l : Line) (a : Arrays) : Type 0 where
-  pub first-low : (i : ℕ) → i < l .size → 0 < getD (a .limits) i 0 → 0 < getD (a .firsts) i 0
-  pub first-high : (i : ℕ) → i < l .size → getD (a .firsts) i 0 < 2 ^ 26
+  pub cost-low : (i : ℕ) → i < l .size → 0 < getD (a .limits) i 0 → (0 < getD (a .costs) i 0) × (0 < getD (a .doublings) i 0)
+  pub cost-high : (i : ℕ) → i < l .size → getD (a .costs) i 0 < 2 ^ 24
   pub shift-high : (i : ℕ) → i < l .size → getD (a .doublings) i 0 * getD (a .limits) i 0 ≤ 15
   pub limit-high : (i : ℕ) → i < l .size → getD (a .limits) i 0 ≤ 15

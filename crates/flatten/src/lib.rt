@@ -3,10 +3,10 @@ ghost use Rattle.line.specs.Line.{LineInRange};
 ghost use Rattle.flatten.specs.Arrays.{Holds};
 use line::Line;
 
-// Limits, first steps, and by how many doublings a step grows from bit to bit.
+// Limits, costs, and by how many doublings a step grows from bit to bit.
 pub struct Arrays {
     pub limits: [u8; 256],
-    pub firsts: [u64; 256],
+    pub costs: [u64; 256],
     pub doublings: [u8; 256],
 }
 
@@ -17,7 +17,7 @@ pub fn flatten(line: Line) -> Arrays
 {
     let mut arrays = Arrays {
         limits: [0; 256],
-        firsts: [0; 256],
+        costs: [0; 256],
         doublings: [0; 256],
     };
     let maps = line.maps;
@@ -26,8 +26,8 @@ pub fn flatten(line: Line) -> Arrays
         let entry = line.entries[i];
         let steps = line::steps_of(line.gap, entry, silence::is_silenced(&maps, i));
         arrays.limits[i] = steps.limit;
-        arrays.firsts[i] = steps.first;
-        arrays.doublings[i] = steps.doublings as u8;
+        arrays.costs[i] = steps.cost;
+        arrays.doublings[i] = steps.doublings;
         i += 1;
     }
     arrays

@@ -1,14 +1,14 @@
 -- Powers and steps that grow by a power of 2, for either kind. The kinds are told apart in `power-shift` and in the bounds on doublings and shifts.
 -- Assumes nothing.
 use mathlib.Core.Path.{_≡_, refl, sym, ap, _∙_}
-use Prim.Native.Nat.{ℕ, zero, suc, _+_, _-_, _*_, _%_, _^_, _≤_, _<_}
+use Prim.Native.Nat.{ℕ, zero, suc, _+_, _-_, _*_, _^_, _≤_, _<_}
 use native.Mathlib.Nat.{mul-sub, mul-suc, pow-suc, mul-comm, mul-assoc, mul-le-mul, mul-le-mul-left, mul-le-mul-right}
 use native.Mathlib.Omega.{arith}
-use lib.Pow.{pow-pos, pow-add, pow-mono, shl-exact}
+use lib.Pow.{pow-pos, pow-add, pow-mono}
 use Rattle.line.specs.declared.Kind.{Kind}
 use Rattle.line.specs.declared.Kind.the-variants.{Pair, Single}
 use Rattle.line.specs.declared.Tone.{Tone}
-use Rattle.line.specs.Tone.{mostCap, powerOf, doublingsOf, doublings, carried, InRange, Cost, power, step}
+use Rattle.line.specs.Tone.{mostCap, powerOf, doublingsOf, doublings, carried, InRange, power, step}
 
 four-pow : (b : ℕ) → 4 ^ b ≡ 2 ^ (2 * b)
 four-pow zero = refl
@@ -24,13 +24,9 @@ power-shift (Pair n) w b =
     rw (mul-sub w (2 ^ b) 1, e) (omega arith)
 power-shift (Single n) w b = rw (mul-sub w (4 ^ b) 1, four-pow b) (omega arith)
 
-doublings-low : (k : Kind) → 1 ≤ doublingsOf k
+pub doublings-low : (k : Kind) → 1 ≤ doublingsOf k
 doublings-low (Pair n) = omega arith
 doublings-low (Single n) = omega arith
-
-pub doublings-high : (k : Kind) → doublingsOf k ≤ 2
-doublings-high (Pair n) = omega arith
-doublings-high (Single n) = omega arith
 
 shift-high : (k : Kind) (b cap : ℕ) → b ≤ cap → cap ≤ mostCap k → doublingsOf k * b ≤ 15
 shift-high (Pair n) b cap h l = omega arith
@@ -80,21 +76,9 @@ pub step-rises : (t : Tone) (w b : ℕ) → 1 ≤ w → step t w b < step t w (s
 step-rises t w b l =
     rw (step-is t w b, step-is t w (suc b)) (steps-rise w (doublings t) b l (doublings-low (t .kind)))
 
--- and the first is not 0
-pub step-positive : (t : Tone) (w : ℕ) → 1 ≤ w → 0 < step t w 0
-step-positive t w l =
-    let e : doublings t * 0 ≡ 0 = omega arith in
-    rw (step-is t w 0, e) (omega (arith, mul-le-mul-left w (pow-mono {i = 1} {j = doublings t} (doublings-low (t .kind)))))
-
 pub power-zero : (t : Tone) (w : ℕ) → power t w 0 ≡ 0
 power-zero t w = let e : doublings t * 0 ≡ 0 = omega arith in rw (power-is t w 0, e) (omega arith)
-
--- ---- the code's shifts
 
 -- a shift that the ranges allow
 pub shift-at-most : (t : Tone) (d b : ℕ) → d ≡ doublings t → b ≤ carried t .cap → InRange t → d * b ≤ 15
 shift-at-most t d b e h I = rw e (shift-high (t .kind) b (carried t .cap) h (I .cap-high))
-
--- a shift by s, which loses no bit
-pub shift-exact : {v : ℕ} (s : ℕ) → v < 2 ^ 26 → s ≤ 15 → (v * 2 ^ s) % 2 ^ 64 ≡ v * 2 ^ s
-shift-exact s l h = shl-exact 26 s 64 l (omega arith)

@@ -1,4 +1,4 @@
--- Bits within the limit are within the cap, and their power within the mask, for a tone of either kind, described or not, silenced or not.
+-- The power of bits within the limit is within the mask, for a tone of either kind, described or not, silenced or not.
 -- Assumes nothing.
 use mathlib.Core.Bool.{Bool, true, false}
 use mathlib.Core.Path.{_≡_}
@@ -13,14 +13,9 @@ use Rattle.line.specs.declared.Slot.{Slot}
 use Rattle.line.specs.declared.Slot.the-variants.{Undescribed, Described}
 use Rattle.line.specs.declared.Line.{Line}
 use Rattle.line.specs.Tone.{cost}
-use Rattle.line.specs.Line.{blank, limitOf, powerOf, maskOf, tones, SlotInRange, AtMostCap, LineInRange}
+use Rattle.line.specs.Line.{blank, limitOf, powerOf, maskOf, tones, SlotInRange, LineInRange}
 use Rattle.line.proofs.Growth.{power-zero}
 use Rattle.line.proofs.Limits.{cap-high, power-mono, limit-is}
-
-pub within-cap : (g : ℕ) (s : Slot) (q : Bool) (b : ℕ) → b ≤ limitOf g s q → AtMostCap s b
-within-cap g Undescribed q b h = tt
-within-cap g (Described t) true b h = omega arith
-within-cap g (Described t) false b h = le-trans h (limit-is t (cost g t) .at-most)
 
 pub within-mask : (g : ℕ) (s : Slot) (q : Bool) (b : ℕ) → b ≤ limitOf g s q → powerOf g s b ≤ maskOf s
 within-mask g Undescribed true b h = omega arith

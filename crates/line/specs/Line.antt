@@ -1,7 +1,9 @@
 -- The line: which tones are described and which silenced, and the tones as the runs see them.
 -- Assumes nothing.
 use mathlib.Core.Bool.{Bool, true, false}
-use Prim.Native.Nat.{ℕ, _*_, _^_, _≤_, _<_}
+use mathlib.Core.List.{List}
+use mathlib.Core.Path.{_≡_}
+use Prim.Native.Nat.{ℕ, suc, _-_, _*_, _^_, _≤_, _<_}
 use lib.ListN.{getD}
 use Rattle.silence.specs.Map.{silenced}
 use Rattle.steps.specs.Tones.{Tones}
@@ -11,7 +13,7 @@ use Rattle.line.specs.declared.Slot.the-variants.{Undescribed, Described
 use Rattle.line.specs.declared.Entry.{Entry}
 use Rattle.line.specs.declared.Steps.{Steps}
 use Rattle.line.specs.declared.Line.{Line}
-use Rattle.line.specs.Tone.{carried, InRange, Gap, cost, power, step, limit, doublings}
+use Rattle.line.specs.Tone.{carried, InRange, Gap, cost, power, limit, doublings}
 
 -- an entry with no tone described
 abbrev pub blank : Entry
@@ -46,11 +48,6 @@ abbrev pub SlotInRange : Slot → Type 0
 SlotInRange Undescribed = Unit {0}
 SlotInRange (Described t) = InRange t
 
--- bits that the cap allows
-abbrev pub AtMostCap : Slot → (b : ℕ) → Type 0
-AtMostCap Undescribed b = Unit {0}
-AtMostCap (Described t) b = b ≤ carried t .cap
-
 pub record EntryInRange (e : Entry) : Type 0 where
   pub slot-in-range : SlotInRange (e .slot)
 
@@ -64,16 +61,28 @@ pub record LineInRange (l : Line) : Type 0 where
 
 -- the code's account of a tone
 abbrev pub noSteps : Steps
-noSteps = record { limit = 0; first = 0; doublings = 0 }
+noSteps = record { limit = 0; cost = 0; doublings = 0 }
 
 abbrev pub stepsOfSlot : (g : ℕ) → Slot → (silenced : Bool) → Steps
 stepsOfSlot g slot true = noSteps
 stepsOfSlot g Undescribed false = noSteps
-stepsOfSlot g (Described t) false = record { limit = limit t (cost g t); first = step t (cost g t) 0; doublings = doublings t }
+stepsOfSlot g (Described t) false = record { limit = limit t (cost g t); cost = cost g t; doublings = doublings t }
 
 abbrev pub stepsOf : (g : ℕ) → Entry → (silenced : Bool) → Steps
 stepsOf g e silenced = stepsOfSlot g (e .slot) silenced
 
--- the step at b bits by that account: the first, doubled `doublings` × b times
+-- the power of b bits by that account: the cost, doubled `doublings` × b times, less the cost; and the step at b bits
+abbrev pub powerIn : (cost doublings b : ℕ) → ℕ
+powerIn cost doublings b = cost * 2 ^ (doublings * b) - cost
+
 abbrev pub stepAt : Steps → (b : ℕ) → ℕ
-stepAt s b = s .first * 2 ^ (s .doublings * b)
+stepAt s b = powerIn (s .cost) (s .doublings) (suc b) - powerIn (s .cost) (s .doublings) b
+
+-- the ranges in which arrays of costs and doublings give the powers of a table's bits
+pub record PowersInRange (count : ℕ) (costs doublings bits : List ℕ) : Type 0 where
+  pub cost-high : (i : ℕ) → i < count → getD costs i 0 < 2 ^ 24
+  pub shift-high : (i : ℕ) → i < count → getD doublings i 0 * getD bits i 0 ≤ 15
+
+-- they are the powers of tones T
+pub record Powers (T : Tones) (costs doublings bits : List ℕ) : Type 0 where
+  pub same-power : (i : ℕ) → i < T .count → T .power i (getD bits i 0) ≡ powerIn (getD costs i 0) (getD doublings i 0) (getD bits i 0)

@@ -1,8 +1,8 @@
 // One tone of a line, and the line: document 01, 'Cost, power and limit of a tone'.
 ghost use mathlib.Core.Path.{_≡_};
-ghost use Prim.Native.Nat.{ℕ, _+_, _≤_, _<_};
-ghost use Rattle.line.specs.Line.{EntryInRange, AtMostCap, powerOf, stepsOf};
-ghost use Rattle.line.specs.Tone.{carried, doublings, InRange, Gap, Cost, cost, power, step, limit};
+ghost use Prim.Native.Nat.{_*_, _^_, _≤_, _<_};
+ghost use Rattle.line.specs.Line.{EntryInRange, powerIn, stepsOf};
+ghost use Rattle.line.specs.Tone.{carried, doublings, InRange, Gap, Cost, cost, power, limit};
 
 // What a tone of either kind carries: noise, gain, cap and mask.
 pub struct Numbers {
@@ -41,11 +41,12 @@ pub struct Line {
     pub maps: [u32; 8],
 }
 
-// What the runs need of a tone, whichever its kind: its limit, and its steps. The step at b bits is `first`, doubled `doublings` × b times.
+// What the runs need of a tone, whichever its kind: its limit, and its powers. The power of b bits is the cost, doubled `doublings` × b
+// times, less the cost.
 pub struct Steps {
     pub limit: u8,
-    pub first: u64,
-    pub doublings: u32,
+    pub cost: u64,
+    pub doublings: u8,
 }
 
 // What the tone carries, whichever its kind.
@@ -60,7 +61,7 @@ pub fn carried(tone: Tone) -> Numbers
 }
 
 // How much one bit more multiplies a step by, as a power of 2: a pair tone's steps double, a single tone's go up fourfold.
-pub fn doublings(tone: Tone) -> u32
+pub fn doublings(tone: Tone) -> u8
     ensures { λ r. ⌜ r ≡ doublings tone ⌝ }
 {
     let kind = tone.kind;
@@ -82,22 +83,20 @@ pub fn cost(gap: u16, tone: Tone) -> u64
     (top + (bottom - 1)) / bottom
 }
 
-// The power of a number of bits, at most the cap.
+// The power of a number of bits, at a cost that so many doublings multiply for each bit.
+pub fn power_at(cost: u64, doublings: u8, bits: u8) -> u64
+    requires { ⌜ (cost < 2 ^ 24) × (doublings * bits ≤ 15) ⌝ }
+    ensures { λ r. ⌜ r ≡ powerIn cost doublings bits ⌝ }
+{
+    (cost << (doublings as u32 * bits as u32)) - cost
+}
+
+// The power of a number of bits of a tone, at most the cap.
 pub fn power(tone: Tone, cost: u64, bits: u8) -> u64
     requires { ⌜ Cost cost × (bits ≤ carried tone .cap) × InRange tone ⌝ }
     ensures { λ r. ⌜ r ≡ power tone cost bits ⌝ }
 {
-    let shift = doublings(tone) * bits as u32;
-    (cost << shift) - cost
-}
-
-// The step at a number of bits, at most the cap.
-pub fn step(tone: Tone, cost: u64, bits: u8) -> u64
-    requires { ⌜ Cost cost × (bits ≤ carried tone .cap) × InRange tone ⌝ }
-    ensures { λ r. ⌜ r ≡ step tone cost bits ⌝ }
-{
-    let shift = doublings(tone);
-    ((cost << shift) - cost) << (shift * bits as u32)
+    power_at(cost, doublings(tone), bits)
 }
 
 // The limit of a tone, by trying one bit more until the cap or the mask stops it.
@@ -124,7 +123,7 @@ pub fn steps_of(gap: u16, entry: Entry, silenced: bool) -> Steps
 {
     let none = Steps {
         limit: 0,
-        first: 0,
+        cost: 0,
         doublings: 0,
     };
     if silenced {
@@ -137,21 +136,9 @@ pub fn steps_of(gap: u16, entry: Entry, silenced: bool) -> Steps
             let w = cost(gap, tone);
             Steps {
                 limit: limit(tone, w),
-                first: step(tone, w, 0),
+                cost: w,
                 doublings: doublings(tone),
             }
         }
-    }
-}
-
-// The power of an entry at a number of bits, at most its cap: none where no tone is described.
-pub fn power_of(gap: u16, entry: Entry, bits: u8) -> u64
-    requires { ⌜ Gap gap × EntryInRange entry × AtMostCap (entry .slot) bits ⌝ }
-    ensures { λ r. ⌜ r ≡ powerOf gap (entry .slot) bits ⌝ }
-{
-    let slot = entry.slot;
-    match slot {
-        Slot::Undescribed => 0,
-        Slot::Described(tone) => power(tone, cost(gap, tone), bits),
     }
 }

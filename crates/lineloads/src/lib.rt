@@ -6,7 +6,8 @@ ghost use Rattle.lineloads.specs.Loads.{mostOn, targetOn, loadAnswer, af
 ghost use Rattle.lineloads.specs.Refits.{refitUpTo, refitAnswer};
 use command::Refusal;
 use line::Line;
-use search::Found;
+use loading::Answer;
+use starts::Found;
 
 // What a loading answers: total bits and total power; or why it is refused.
 pub enum Loaded {
@@ -29,9 +30,10 @@ pub fn most(line: Line, table: &mut [u8]) -> Loaded
     if table.len() < 9 * line.size as usize {
         return Loaded::Refused(Refusal::DestinationTooSmall);
     }
-    let running = lineruns::add(line, 3840);
+    let arrays = flatten::flatten(line);
+    let running = lineruns::add(line, arrays, 3840).running;
     let bits = running.bits;
-    lineruns::write(line, running, table);
+    lineruns::write(line, arrays, running, table);
     Loaded::Totals(tables::total_bits(line.size, &bits), running.power)
 }
 
@@ -44,13 +46,17 @@ pub fn target(line: Line, target: u32, table: &mut [u8]) -> Loaded
     if table.len() < 9 * line.size as usize {
         return Loaded::Refused(Refusal::DestinationTooSmall);
     }
-    let running = lineruns::add(line, target);
-    let bits = running.bits;
-    if tables::total_bits(line.size, &bits) != target {
-        return Loaded::Refused(Refusal::TargetNotCarried);
+    let arrays = flatten::flatten(line);
+    let stepped = lineruns::add(line, arrays, target);
+    let answer = stepped.answer;
+    match answer {
+        Answer::Finished => Loaded::Refused(Refusal::TargetNotCarried),
+        Answer::Moved => {
+            let running = stepped.running;
+            lineruns::write(line, arrays, running, table);
+            Loaded::Totals(target, running.power)
+        }
     }
-    lineruns::write(line, running, table);
-    Loaded::Totals(target, running.power)
 }
 
 // Re-fits a starting table by at most so many moves.
@@ -71,14 +77,14 @@ pub fn refit(line: Line, start: &[u8], most: u32, table: &mut [u8]) -> Refitted
     match above {
         Found::Tone(tone) => Refitted::Refused(Refusal::StartAboveLimit(tone as u16)),
         Found::Nothing => {
-            let ran = lineruns::refit(line, arrays, start, most);
-            let running = ran.running;
+            let stepped = lineruns::refit(line, arrays, start, most);
+            let running = stepped.running;
             let bits = running.bits;
-            lineruns::write(line, running, table);
+            lineruns::write(line, arrays, running, table);
             Refitted::Totals(
                 tables::total_bits(line.size, &bits),
                 running.power,
-                ran.moves,
+                stepped.moves,
             )
         }
     }

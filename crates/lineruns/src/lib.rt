@@ -8,59 +8,61 @@ ghost use Rattle.steps.specs.Runs.{run, addStep, refitStep};
 ghost use Rattle.line.specs.Line.{LineInRange, tones};
 ghost use Rattle.flatten.specs.Arrays.{Holds};
 ghost use Rattle.starts.specs.Starts.{Stands};
-ghost use Rattle.runs.specs.Runs.{ruleOf};
+ghost use Rattle.moves.specs.Moves.{ruleOf};
 ghost use Rattle.tables.specs.Tables.{tableBytes};
 ghost use Rattle.lineruns.specs.Runs.{StandsForOne, EndsIn};
 use flatten::Arrays;
 use line::Line;
 use loading::Running;
-use runs::Ran;
-use runs::Rule;
+use loading::Stepped;
+use moves::Rule;
 
 // A run of a line: steps of a rule until finished, or until `most` of them have moved.
-fn run_line(line: Line, arrays: Arrays, running: Running, rule: Rule, most: u32) -> Ran
+fn run_line(line: Line, arrays: Arrays, running: Running, rule: Rule, most: u32) -> Stepped
     requires { ⌜ LineInRange line × Holds line arrays × StandsForOne line running ⌝ }
-    ensures { λ r. ⌜ ((t : Table) → Stands line running t → EndsIn line r (run (ruleOf rule (tones line) (line .budget)) most t)) ⌝ }
+    ensures { λ r. ⌜ ((t : Table) → Stands line running t → EndsIn line most r (run (ruleOf rule (tones line) (line .budget)) most t)) ⌝ }
 {
     let limits = arrays.limits;
-    let firsts = arrays.firsts;
+    let costs = arrays.costs;
     let doublings = arrays.doublings;
-    runs::run(
-        running,
+    running.steps(
         rule,
         most,
         line.budget,
         line.size as usize,
         &limits,
-        &firsts,
+        &costs,
         &doublings,
     )
 }
 
 // Adds from no bits, at most so many.
-pub fn add(line: Line, most: u32) -> Running
-    requires { ⌜ LineInRange line ⌝ }
-    ensures { λ r. ⌜ Stands line r (run (addStep (tones line) (line .budget)) most (noBits (tones line)) .table) ⌝ }
+pub fn add(line: Line, arrays: Arrays, most: u32) -> Stepped
+    requires { ⌜ LineInRange line × Holds line arrays ⌝ }
+    ensures { λ r. ⌜ EndsIn line most r (run (addStep (tones line) (line .budget)) most (noBits (tones line))) ⌝ }
 {
-    let arrays = flatten::flatten(line);
     let running = starts::no_bits();
-    run_line(line, arrays, running, Rule::Add, most).running
+    run_line(line, arrays, running, Rule::Add, most)
 }
 
 // Re-fits a starting table within the limits, by at most so many moves.
-pub fn refit(line: Line, arrays: Arrays, start: &[u8], most: u32) -> Ran
+pub fn refit(line: Line, arrays: Arrays, start: &[u8], most: u32) -> Stepped
     requires { ⌜ LineInRange line × Holds line arrays × KeepsLimits (tones line) (now start) ⌝ }
-    ensures { λ r. ⌜ EndsIn line r (run (refitStep (tones line) (line .budget)) most (now (start .entry))) ⌝ }
+    ensures { λ r. ⌜ EndsIn line most r (run (refitStep (tones line) (line .budget)) most (now (start .entry))) ⌝ }
 {
-    let running = starts::from_start(start, line);
+    let costs = arrays.costs;
+    let doublings = arrays.doublings;
+    let running = starts::from_start(start, &costs, &doublings);
     run_line(line, arrays, running, Rule::Refit, most)
 }
 
 // Writes the running table.
-pub fn write(line: Line, running: Running, table: &mut [u8])
-    requires { ⌜ LineInRange line × StandsForOne line running × (9 * line .size ≤ length (now table)) ⌝ }
+pub fn write(line: Line, arrays: Arrays, running: Running, table: &mut [u8])
+    requires { ⌜ LineInRange line × Holds line arrays × StandsForOne line running × (9 * line .size ≤ length (now table)) ⌝ }
     ensures { λ r. ⌜ ((t : Table) → Stands line running t → now (table .exit) ≡ tableBytes (tones line) t ++ drop (9 * line .size) (now (table .entry))) ⌝ }
 {
+    let costs = arrays.costs;
+    let doublings = arrays.doublings;
     let bits = running.bits;
-    tables::put_table(table, line, bits);
+    tables::put_table(table, line.size as usize, &costs, &doublings, &bits);
 }

@@ -1,2 +1,3 @@
-pub mod Kept
-pub mod Scans
+pub mod Choice
+pub mod Found
+pub mod Parts

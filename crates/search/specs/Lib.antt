@@ -1,1 +1,1 @@
-pub mod Flat
+pub mod Least

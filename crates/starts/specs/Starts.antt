@@ -11,6 +11,8 @@ use Rattle.steps.specs.Tones.{Tones, Table, _!_, totalPower, KeepsLimits}
 use Rattle.line.specs.declared.Line.{Line}
 use Rattle.line.specs.Line.{tones}
 use Rattle.loading.specs.declared.Running.{Running}
+use Rattle.starts.specs.declared.Found.{Found}
+use Rattle.starts.specs.declared.Found.the-variants.{Nothing, Tone}
 
 -- the first of two that is there
 unfoldable pub orElse : Option ℕ → Option ℕ → Option ℕ
@@ -22,6 +24,11 @@ unfoldable pub firstAbove : Tones → Table → (n : ℕ) → Option ℕ
 unfolding orElse
 firstAbove T t zero = none
 firstAbove T t (suc n) = orElse (firstAbove T t n) (ite (decLt (T .limit n) (t ! n)) (some n) none)
+
+-- what the search for it answers, as an option
+abbrev pub found : Found → Option ℕ
+found Nothing = none
+found (Tone i) = some i
 
 -- the running table of no bits
 abbrev pub noBitsYet : Running

@@ -2,13 +2,16 @@
 ghost use mathlib.Core.Path.{_≡_};
 ghost use Prim.Native.Nat.{ℕ, _≤_, _<_};
 ghost use lib.ListN.{length, getD};
-ghost use Rattle.steps.specs.Tones.{Tones, KeepsLimits};
-ghost use Rattle.search.specs.Flat.{found};
-ghost use Rattle.line.specs.Line.{LineInRange, tones};
-ghost use Rattle.starts.specs.Starts.{firstAbove, noBitsYet, Stands};
-use line::Line;
+ghost use Rattle.steps.specs.Tones.{Tones, _!_, totalPower};
+ghost use Rattle.line.specs.Line.{PowersInRange, Powers};
+ghost use Rattle.starts.specs.Starts.{found, firstAbove, noBitsYet};
 use loading::Running;
-use search::Found;
+
+// The tone that was found, if any.
+pub enum Found {
+    Nothing,
+    Tone(usize),
+}
 
 // The first tone of a starting table with more bits than its limit.
 pub fn first_above(start: &[u8], limits: &[u8; 256]) -> Found
@@ -35,17 +38,17 @@ pub fn no_bits() -> Running
     }
 }
 
-// The running table of a starting table, with its total power.
-pub fn from_start(start: &[u8], line: Line) -> Running
-    requires { ⌜ LineInRange line × KeepsLimits (tones line) (now start) ⌝ }
-    ensures { λ r. ⌜ Stands line r (now (start .entry)) ⌝ }
+// The running table of a starting table, with its total power, by the costs and doublings of its tones.
+pub fn from_start(start: &[u8], costs: &[u64; 256], doublings: &[u8; 256]) -> Running
+    requires { ⌜ (length (now start) ≤ 256) × PowersInRange (length (now start)) (now costs) (now doublings) (now start) ⌝ }
+    ensures bits { λ r. ⌜ ((i : ℕ) → i < length (now (start .entry)) → now (start .entry) ! i ≡ getD (r .bits) i 0) ⌝ }
+    ensures power { λ r. ⌜ ((T : Tones) → T .count ≡ length (now (start .entry)) → Powers T (now (costs .entry)) (now (doublings .entry)) (now (start .entry)) → r .power ≡ totalPower T (now (start .entry))) ⌝ }
 {
     let mut running = no_bits();
     let mut i: usize = 0;
-    while i < line.size as usize {
-        let entry = line.entries[i];
+    while i < start.len() {
         running.bits[i] = start[i];
-        running.power += line::power_of(line.gap, entry, start[i]);
+        running.power += line::power_at(costs[i], doublings[i], start[i]);
         i += 1;
     }
     running

@@ -1,4 +1,4 @@
--- Moves that are enough are as good as any more; and adding a set number of bits is adding so many moves.
+-- Moves that are enough are as good as any more; adding a set number of bits is adding so many moves, and each adds one bit.
 -- Assumes nothing.
 use mathlib.Core.Path.{_≡_, refl, ap, _∙_}
 use mathlib.Core.Logic.{if-pos, if-neg}
@@ -23,6 +23,16 @@ run-more rule (suc k) (suc j) t e l = go (rule t) e (λ u. run-more rule k j u)
         → follow (run rule j) t a ≡ follow (run rule k) t a
     go finished q ih = refl
     go (moved u) q ih = ap (λ (r : Ran). record { table = r .table; moves = suc (r .moves) }) (ih u q (omega arith))
+
+-- a run makes no more moves than it may
+pub moves-at-most : (rule : Table → Answer) (k : ℕ) (t : Table) → run rule k t .moves ≤ k
+unfolding run follow
+moves-at-most rule zero t = omega arith
+moves-at-most rule (suc k) t = go (rule t) (moves-at-most rule k)
+  where
+    go : (a : Answer) → ((u : Table) → run rule k u .moves ≤ k) → follow (run rule k) t a .moves ≤ suc k
+    go finished ih = omega arith
+    go (moved u) ih = omega (arith, ih u)
 
 module _ (T : Tones) (R : Rising T) (budget : ℕ) (base : KeepsBudget T budget (noBits T)) where
   pub most-bits-enough : (k : ℕ) → sumOfLimits T ≤ k → run (addStep T budget) k (noBits T) ≡ mostBits T budget
@@ -59,3 +69,21 @@ module _ (T : Tones) (R : Rising T) (budget : ℕ) (base : KeepsBudget T budget 
       ap (carrying T target)
       (adds target target (sumOfLimits T) (sumOfLimits T) (noBits T) (adding-starts T R budget base) (omega arith)
       (omega (arith, sum-zero (T .count) (λ i. noBits T ! i) (no-bits-at T R budget base))))
+
+  -- each move adds one bit
+  adds-bits : (k n : ℕ) (t : Table) → Adding T budget n t → totalBits T (run (addStep T budget) k t .table) ≡ totalBits T t + run (addStep T budget) k t .moves
+  unfolding run follow
+  adds-bits zero n t A = omega arith
+  adds-bits (suc k) n t A = go (addStep T budget t) refl (λ n u. adds-bits k n u)
+    where
+      go : (a : Answer) → addStep T budget t ≡ a
+          → ((n : ℕ) (u : Table) → Adding T budget n u → totalBits T (run (addStep T budget) k u .table) ≡ totalBits T u + run (addStep T budget) k u .moves)
+          → totalBits T (follow (run (addStep T budget) k) t a .table) ≡ totalBits T t + follow (run (addStep T budget) k) t a .moves
+      go finished q ih = omega arith
+      go (moved u) q ih =
+          let f = add-moves T R budget base A q in
+          omega (arith, ih (n - 1) u (f .1), f .2)
+
+  pub bits-are-moves : (k : ℕ) → totalBits T (run (addStep T budget) k (noBits T) .table) ≡ run (addStep T budget) k (noBits T) .moves
+  bits-are-moves k =
+      omega (arith, adds-bits k (sumOfLimits T) (noBits T) (adding-starts T R budget base), sum-zero (T .count) (λ i. noBits T ! i) (no-bits-at T R budget base))

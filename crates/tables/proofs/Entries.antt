@@ -1,14 +1,16 @@
 -- The bytes of a table: how many they are, what they go by, and what a buffer holds once they are written at its start.
 -- Assumes nothing.
-use mathlib.Core.List.{List, _++_}
-use mathlib.Core.Path.{_≡_, refl, ap, _∙_}
+use mathlib.Core.List.{List, _∷_, _++_}
+use mathlib.Core.Path.{_≡_, refl, sym, ap, _∙_}
 use Prim.Native.Nat.{ℕ, zero, suc, _+_, _*_, _≤_, _<_}
 use native.Mathlib.Omega.{arith}
-use lib.ListN.{length, drop}
+use lib.ListN.{length, getD, drop}
 use lib.Seq.{sets, sets-eq}
+use Rattle.bigendian.specs.Number.{bytes}
 use Rattle.bigendian.proofs.Numbers.{length-bytes}
 use Rattle.bigendian.proofs.Stores.{Growing, length-none, length-next}
 use Rattle.steps.specs.Tones.{Tones, Table, _!_}
+use Rattle.line.specs.Line.{powerIn, Powers}
 use Rattle.tables.specs.Tables.{toneEntry, entriesBelow, tableBytes}
 
 -- tone by tone
@@ -24,14 +26,25 @@ pub length-entries : (T : Tones) (t : Table) (n : ℕ) → length (entriesBelow 
 length-entries T t zero = length-none (entries-grow T t)
 length-entries T t (suc n) = omega (arith, length-next (entries-grow T t) n, length-entries T t n, length-entry T t n)
 
-same-entries : (T : Tones) (t u : Table) (n : ℕ) → ((i : ℕ) → i < n → t ! i ≡ u ! i) → entriesBelow T t n ≡ entriesBelow T u n
+same-entries : (T U : Tones) (t u : Table) (n : ℕ) → ((i : ℕ) → i < n → toneEntry T t i ≡ toneEntry U u i) → entriesBelow T t n ≡ entriesBelow U u n
 unfolding entriesBelow
-same-entries T t u zero h = refl
-same-entries T t u (suc n) h = rw (same-entries T t u n (λ i l. h i (omega arith)), h n (omega arith))
+same-entries T U t u zero h = refl
+same-entries T U t u (suc n) h = rw (same-entries T U t u n (λ i l. h i (omega arith)), h n (omega arith))
 
 -- the bytes of a table go by its bits of the tones
 pub same-table-bytes : (T : Tones) (t u : Table) → ((i : ℕ) → i < T .count → t ! i ≡ u ! i) → tableBytes T t ≡ tableBytes T u
-same-table-bytes T t u h = same-entries T t u (T .count) h
+same-table-bytes T t u h =
+    same-entries T T t u (T .count) (λ i l. ap (λ (b : ℕ). b ∷ bytes 8 (T .power i b)) (h i l))
+
+-- tones by their costs and doublings alone
+abbrev pub plain : (costs doublings : List ℕ) → Tones
+plain costs doublings = record { count = 0; limit = λ i. 0; power = λ i b. powerIn (getD costs i 0) (getD doublings i 0) b }
+
+-- they give the bytes of all tones that have their powers
+pub plain-table-bytes : (T : Tones) (t : Table) {costs doublings : List ℕ} → Powers T costs doublings t
+    → entriesBelow (plain costs doublings) t (T .count) ≡ tableBytes T t
+plain-table-bytes T t {costs} {doublings} P =
+    same-entries (plain costs doublings) T t t (T .count) (λ i l. ap (λ (p : ℕ). t ! i ∷ bytes 8 p) (sym (P .same-power i l)))
 
 -- a table written at a buffer's start, and what stays behind it
 pub table-written : (T : Tones) (t : Table) (out : List ℕ) → 9 * T .count ≤ length out → sets out 0 (tableBytes T t) ≡ tableBytes T t ++ drop (9 * T .count) out

@@ -2,12 +2,9 @@
 -- byte first'.
 -- Assumes nothing.
 use mathlib.Core.List.{List, [], _∷_, _++_}
-use Prim.Native.Nat.{ℕ, zero, suc, _≤_, _<_}
-use lib.ListN.{getD}
+use Prim.Native.Nat.{ℕ, zero, suc}
 use Rattle.bigendian.specs.Number.{bytes}
 use Rattle.steps.specs.Tones.{Tones, Table, _!_}
-use Rattle.line.specs.declared.Line.{Line}
-use Rattle.line.specs.Line.{tones}
 
 -- the 9 bytes of tone i
 abbrev pub toneEntry : Tones → Table → (i : ℕ) → List ℕ
@@ -20,7 +17,3 @@ entriesBelow T t (suc n) = entriesBelow T t n ++ toneEntry T t n
 
 abbrev pub tableBytes : Tones → Table → List ℕ
 tableBytes T t = entriesBelow T t (T .count)
-
--- no tone of the line has more bits than its limit
-pub record UnderLimits (l : Line) (bits : List ℕ) : Type 0 where
-  pub under : (i : ℕ) → i < l .size → getD bits i 0 ≤ tones l .limit i

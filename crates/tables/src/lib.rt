@@ -5,10 +5,9 @@ ghost use Prim.Native.Nat.{_+_, _*_, _≤_};
 ghost use lib.ListN.{length, getD};
 ghost use lib.Seq.{sets};
 ghost use Rattle.bigendian.specs.Number.{bytes};
-ghost use Rattle.steps.specs.Tones.{sum};
-ghost use Rattle.line.specs.Line.{LineInRange, tones};
-ghost use Rattle.tables.specs.Tables.{UnderLimits, tableBytes};
-use line::Line;
+ghost use Rattle.steps.specs.Tones.{Tones, sum};
+ghost use Rattle.line.specs.Line.{PowersInRange, Powers};
+ghost use Rattle.tables.specs.Tables.{tableBytes};
 
 // The total bits of a table.
 pub fn total_bits(count: u16, bits: &[u8; 256]) -> u32
@@ -35,15 +34,20 @@ fn put_tone(out: &mut [u8], at: usize, bits: u8, power: u64)
     bigendian::put_number(out, at + 1, 8, power);
 }
 
-// The table of a line, from the buffer's start on.
-pub fn put_table(out: &mut [u8], line: Line, bits: [u8; 256])
-    requires { ⌜ LineInRange line × UnderLimits line bits × (9 * line .size ≤ length (now out)) ⌝ }
-    ensures { λ r. ⌜ now (out .exit) ≡ sets (now (out .entry)) 0 (tableBytes (tones line) bits) ⌝ }
+// The table of so many tones with these costs and doublings, from the buffer's start on.
+pub fn put_table(
+    out: &mut [u8],
+    count: usize,
+    costs: &[u64; 256],
+    doublings: &[u8; 256],
+    bits: &[u8; 256],
+)
+    requires { ⌜ (count ≤ 256) × PowersInRange count (now costs) (now doublings) (now bits) × (9 * count ≤ length (now out)) ⌝ }
+    ensures { λ r. ⌜ ((T : Tones) → T .count ≡ count → Powers T (now (costs .entry)) (now (doublings .entry)) (now (bits .entry)) → now (out .exit) ≡ sets (now (out .entry)) 0 (tableBytes T (now (bits .entry)))) ⌝ }
 {
     let mut i: usize = 0;
-    while i < line.size as usize {
-        let entry = line.entries[i];
-        let power = line::power_of(line.gap, entry, bits[i]);
+    while i < count {
+        let power = line::power_at(costs[i], doublings[i], bits[i]);
         put_tone(out, 9 * i, bits[i], power);
         i += 1;
     }

@@ -4,10 +4,9 @@ use Prim.Native.Nat.{_-_, _<_}
 use native.Mathlib.Omega.{arith}
 use borrow.Author.Needs.{needs}
 use lib.ListN.{getD}
-use Rattle.silence.specs.Map.{silenced}
 use Rattle.line.specs.Line.{blank, stepsOf}
 use Rattle.flatten.specs.Arrays.{stepsAt}
-use Rattle.flatten.proofs.Filling.{Filling, filled-more, filling-holds, doublings-few}
+use Rattle.flatten.proofs.Filling.{Filling, filled-more, filling-holds}
 use Rattle.flatten.proofs.flatten.Statement.{statement}
 use Rattle.flatten.proofs.flatten.Tie as tie
 
@@ -18,18 +17,18 @@ abbrev μ-loop : tie.MeasureT-loop
 μ-loop line arrays₀ maps i₀ arrays i = line .size - i
 
 -- what is stored is what the runs need of tone i
-steps-at : (c : tie.After-struct-known Inv-loop μ-loop)
-    → c .before .steps-of .result ≡ stepsAt (c .before .before .before .before .before .before .before .before .args .t1) (c .before .before .before .before .before .before .loop .i)
+steps-at : (c : tie.After-steps-of Inv-loop μ-loop)
+    → c .steps-of .result ≡ stepsAt (c .before .before .before .before .before .before .before .args .t1) (c .before .before .before .before .before .loop .i)
 steps-at c =
-    let l = c .before .before .before .before .before .before .before .before .args .t1 in
-    let i = c .before .before .before .before .before .before .loop .i in
-    c .before .steps-of .ensures ∙ ap (stepsOf (l .gap) (getD (l .entries) i blank)) (c .before .before .is-silenced .ensures)
+    let l = c .before .before .before .before .before .before .before .args .t1 in
+    let i = c .before .before .before .before .before .loop .i in
+    c .steps-of .ensures ∙ ap (stepsOf (l .gap) (getD (l .entries) i blank)) (c .before .is-silenced .ensures)
 
 loop-holds : tie.Need-loop-holds Inv-loop μ-loop
 loop-holds c = record {
   inside = omega arith;
   limits = record { sized = refl; at = λ k l. omega arith };
-  firsts = record { sized = refl; at = λ k l. omega arith };
+  costs = record { sized = refl; at = λ k l. omega arith };
   doublings = record { sized = refl; at = λ k l. omega arith };
 }
 
@@ -59,13 +58,6 @@ mul-arrays c = record { fits = omega arith }
 element-write-arrays-2 : tie.Need-element-write-arrays-2 Inv-loop μ-loop
 element-write-arrays-2 c = omega arith
 
-cast-arrays : tie.Need-cast-arrays Inv-loop μ-loop
-cast-arrays c =
-    let l = c .before .before .before .before .before .before .before .before .args .t1 in
-    let i = c .before .before .before .before .before .before .loop .i in
-    let few = doublings-few (l .gap) (getD (l .entries) i blank .slot) (silenced (l .maps) i) in
-    record { fits = omega (arith, few, ap (λ s. s .doublings) (steps-at c)) }
-
 element-write-arrays-3 : tie.Need-element-write-arrays-3 Inv-loop μ-loop
 element-write-arrays-3 c = omega arith
 
@@ -77,12 +69,12 @@ loop-less c = omega arith
 
 loop-again : tie.Need-loop-again Inv-loop μ-loop
 loop-again c =
-    let a = c .before .before .before .before .before .before in
+    let a = c .before .before .before .before .before in
     let inside : a .loop .i < 256 = omega arith in
     record {
       inside = omega arith;
       limits = filled-more (a .loop .inv .limits) _ inside (ap (λ s. s .limit) (steps-at c));
-      firsts = filled-more (a .loop .inv .firsts) _ inside (ap (λ s. s .first) (steps-at c));
+      costs = filled-more (a .loop .inv .costs) _ inside (ap (λ s. s .cost) (steps-at c));
       doublings = filled-more (a .loop .inv .doublings) _ inside (ap (λ s. s .doublings) (steps-at c));
     }
 
@@ -105,7 +97,6 @@ flatten-spec =
     element-write-arrays
     mul-arrays
     element-write-arrays-2
-    cast-arrays
     element-write-arrays-3
     add-i
     loop-less

@@ -1,5 +1,4 @@
 -- `line::steps_of` meets its contract. Assumes nothing.
-use native.Mathlib.Omega.{arith}
 use Rattle.line.specs.Tone.{InRange}
 use borrow.Author.Needs.{needs}
 use Rattle.line.proofs.steps_of.Statement.{statement}
@@ -9,7 +8,6 @@ use Rattle.line.proofs.steps_of.Lts as lts
 use Rattle.line.proofs.cost.Reads as cost-reads
 use Rattle.line.proofs.doublings.Reads as doublings-reads
 use Rattle.line.proofs.limit.Reads as limit-reads
-use Rattle.line.proofs.step.Reads as step-reads
 
 -- what a described tone carries is in range
 described : (c : tie.After-known-told) → InRange (c .before .slot .given .0 .0)
@@ -18,39 +16,28 @@ described c = rw (c .before .slot .given .1) at (c .before .before .before .befo
 returns : tie.Need-returns
 returns c = simp (c .if1 .taken)
 
--- src/lib.rt:135:30
 enum-told : tie.Need-enum-told
 enum-told c = search needs
 
--- src/lib.rt:136:25
 enum-known-slot : tie.Need-enum-known-slot
 enum-known-slot c = search needs
 
--- src/lib.rt:137:17
 cost-requires : tie.Need-cost-requires
 cost-requires c κs = (c .before .before .before .before .pre .0, described c)
 
--- src/lib.rt:139:24
 limit-requires : tie.Need-limit-requires
 limit-requires c κs = (c .cost .ensures .1, described (c .before))
 
--- src/lib.rt:140:24
-step-requires : tie.Need-step-requires
-step-requires c κs = (c .before .cost .ensures .1, omega arith, described (c .before .before))
-
--- src/lib.rt:141:28
 doublings-requires : tie.Need-doublings-requires
 doublings-requires c κs = search needs
 
--- src/lib.rt:121:1
 returns-2 : tie.Need-returns-2
 returns-2 c = simp (c .before .before .if1 .left, c .enum-told .given .1)
 
--- src/lib.rt:121:1
 returns-3 : tie.Need-returns-3
 returns-3 c =
-    let w = c .before .before .before in
-    simp (w .before .before .before .before .if1 .left, w .before .before .slot .given .1, c .before .before .limit .ensures, c .before .step .ensures, c .doublings .ensures, w .cost .ensures .0)
+    let w = c .before .before in
+    simp (w .before .before .before .before .if1 .left, w .before .before .slot .given .1, c .before .limit .ensures, c .doublings .ensures, w .cost .ensures .0)
 
 pub steps-of-spec : {M : Type 1} → statement M
 steps-of-spec =
@@ -61,7 +48,6 @@ steps-of-spec =
     enum-known-slot
     cost-requires
     limit-requires
-    step-requires
     doublings-requires
     returns-2
     returns-3)

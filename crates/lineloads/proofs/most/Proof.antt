@@ -18,31 +18,33 @@ mul-if1 c = search needs
 returns : tie.Need-returns
 returns c = load-refused _ (most-short _ (c .if1 .taken))
 
+flatten-requires : tie.Need-flatten-requires
+flatten-requires c κs = search needs
+
 add-requires : tie.Need-add-requires
-add-requires c κs = search needs
+add-requires c κs = (c .before .before .before .before .pre, c .flatten .ensures)
 
 -- the running table is where the run for most bits ends
-stands : (c : tie.After-add) → Stands (c .before .before .before .before .args .line) (c .add .result) (mostBits (tones (c .before .before .before .before .args .line)) (c .before .before .before .before .args .line .budget) .table)
+stands : (c : tie.After-add) → let l = c .before .before .before .before .before .args .line in Stands l (c .add .result .running) (mostBits (tones l) (l .budget) .table)
 stands c =
-    let k = c .before .before .before .before in
-    rw (most-run (k .args .line) (k .pre)) at (c .add .ensures)
+    let k = c .before .before .before .before .before in
+    rw (most-run (k .args .line) (k .pre)) at (c .add .ensures .stands)
 
 write-requires : tie.Need-write-requires
 write-requires c κs =
-    let k = c .before .before .before .before .before .before in
-    (k .pre, record { table = _; stands = stands (c .before .before) }, c .before .before .before .if1 .left)
+    let a = c .before .before .before in
+    (a .before .before .before .before .before .pre, a .before .flatten .ensures, record { table = _; stands = stands a }, a .before .before .if1 .left)
 
 total-bits-requires : tie.Need-total-bits-requires
-total-bits-requires c κs =
-    omega (arith, c .before .before .before .before .before .before .before .before .before .before .pre .size-high)
+total-bits-requires c κs = omega (arith, c .before .before .before .before .before .before .before .before .before .before .before .before .pre .size-high)
 
 same-length : tie.Need-same-length
 same-length c = search needs
 
 returns-2 : tie.Need-returns-2
 returns-2 c =
-    let a = c .before .before .before .before .before .before .before in
-    load-done (most-fits _ (a .before .if1 .left)) (record { stands = stands a; added-up = c .total-bits .ensures; written = c .before .before .before .before .write .ensures _ (stands a) })
+    let a = c .before .before .before .before .before .before .before .before in
+    load-done (most-fits _ (a .before .before .if1 .left)) (record { stands = stands a; added-up = c .total-bits .ensures; written = c .before .before .before .before .write .ensures _ (stands a) })
 
 pub most-spec : {M : Type 1} → statement M
 most-spec =
@@ -51,6 +53,7 @@ most-spec =
     cast-if1
     mul-if1
     returns
+    flatten-requires
     add-requires
     write-requires
     total-bits-requires

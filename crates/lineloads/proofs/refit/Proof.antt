@@ -8,10 +8,9 @@ use borrow.Author.Needs.{needs}
 use Rattle.steps.specs.Tones.{KeepsLimits}
 use Rattle.line.specs.declared.Line.{Line}
 use Rattle.line.specs.Line.{tones}
-use Rattle.search.specs.declared.Found.the-variants.{Nothing, Tone}
-use Rattle.search.specs.Flat.{found}
+use Rattle.starts.specs.declared.Found.the-variants.{Nothing, Tone}
 use Rattle.flatten.proofs.Tones.{arrays-steps}
-use Rattle.starts.specs.Starts.{firstAbove}
+use Rattle.starts.specs.Starts.{found, firstAbove}
 use Rattle.starts.proofs.Above.{First, first-above, none-keeps}
 use Rattle.lineloads.proofs.Outcomes.{refit-refused, refit-done, refit-short, refit-length, refit-above, refit-fits}
 use Rattle.lineloads.proofs.refit.Statement.{statement}
@@ -79,7 +78,7 @@ refit-requires c κs =
 write-requires : tie.Need-write-requires
 write-requires c κs =
     let a = c .before .before .before .before .before .before in
-    (a .before .before .before .before .before .before .before .before .before .before .pre, record { table = _; stands = c .before .before .before .refit .ensures .stands }, a .before .before .before .before .before .before .if1 .left)
+    (a .before .before .before .before .before .before .before .before .before .before .pre, a .before .before .before .flatten .ensures, record { table = _; stands = c .before .before .before .refit .ensures .stands }, a .before .before .before .before .before .before .if1 .left)
 
 total-bits-requires : tie.Need-total-bits-requires
 total-bits-requires c κs = omega (arith, c .before .before .before .before .before .before .before .before .before .before .before .before .before .before .before .before .before .before .before .before .pre .size-high)

@@ -1,11 +1,8 @@
 -- `lineloads::target` meets its contract. Assumes nothing.
 use mathlib.Core.Path.{_≡_, refl, sym, _∙_}
-use native.Mathlib.Omega.{arith}
 use borrow.Author.Needs.{needs}
-use Rattle.steps.specs.Tones.{noBits, totalBits}
-use Rattle.steps.specs.Runs.{addStep, run}
-use Rattle.line.specs.Line.{tones}
 use Rattle.lineruns.proofs.Standing.{stands-bits}
+use Rattle.lineloads.proofs.Runs.{carried-by, missed-by}
 use Rattle.lineloads.proofs.Outcomes.{load-refused, load-done, target-short, target-missed, target-carried}
 use Rattle.lineloads.proofs.target.Statement.{statement}
 use Rattle.lineloads.proofs.target.Tie as tie
@@ -19,42 +16,41 @@ mul-if1 c = search needs
 returns : tie.Need-returns
 returns c = load-refused _ (target-short _ _ (c .if1 .taken))
 
+flatten-requires : tie.Need-flatten-requires
+flatten-requires c κs = search needs
+
 add-requires : tie.Need-add-requires
-add-requires c κs = search needs
+add-requires c κs = (c .before .before .before .before .pre, c .flatten .ensures)
 
-total-bits-requires : tie.Need-total-bits-requires
-total-bits-requires c κs = omega (arith, c .before .before .before .before .before .before .pre .size-high)
+enum-told : tie.Need-enum-told
+enum-told c = search needs
 
--- the total bits are those of the table that the run ends in
-total : (c : tie.After-total-bits) → let k = c .before .before .before .before .before .before .before in c .total-bits .result ≡ totalBits (tones (k .args .line)) (run (addStep (tones (k .args .line)) (k .args .line .budget)) (k .args .target) (noBits (tones (k .args .line))) .table)
-total c = c .total-bits .ensures ∙ stands-bits (c .before .before .before .add .ensures)
-
-returns-2 : tie.Need-returns-2
-returns-2 c =
-    let a = c .before .before .before .before in
-    let k = a .before .before .before .before in
-    load-refused _ (target-missed _ _ (k .pre) (a .before .if1 .left) refl (λ e. c .if2 .taken (total (c .before) ∙ e)))
+enum-told-2 : tie.Need-enum-told-2
+enum-told-2 c = search needs
 
 write-requires : tie.Need-write-requires
 write-requires c κs =
-    let a = c .before .before .before .before .before in
-    (a .before .before .before .before .pre, record { table = _; stands = a .add .ensures }, a .before .if1 .left)
+    let a = c .before .before .before .before in
+    (a .before .before .before .before .before .pre, a .before .flatten .ensures, record { table = _; stands = a .add .ensures .stands }, a .before .before .if1 .left)
+
+-- the last step found nothing to take: the target is not carried
+returns-2 : tie.Need-returns-2
+returns-2 c =
+    let a = c .before .before in
+    let k = a .before .before .before .before .before in
+    load-refused _ (target-missed _ _ (k .pre) (a .before .before .if1 .left) refl (missed-by _ (k .pre) _ (sym (a .add .ensures .answered) ∙ c .enum-told .given .1)))
 
 same-length : tie.Need-same-length
 same-length c = search needs
 
+-- every step moved: it is
 returns-3 : tie.Need-returns-3
 returns-3 c =
-    let b = c .before .before .before .before .before in
-    let a = b .before .before .before in
-    let k = a .before .before .before .before in
-    load-done
-    (target-carried _ _ (k .pre) (a .before .if1 .left) refl (sym (total b) ∙ c .before .before .before .before .if2 .left))
-    (record {
-      stands = a .add .ensures;
-      added-up = sym (c .before .before .before .before .if2 .left) ∙ b .total-bits .ensures;
-      written = c .before .before .write .ensures _ (a .add .ensures);
-    })
+    let a = c .before .before .before .before .before .before .before in
+    let k = a .before .before .before .before .before in
+    let S = a .add .ensures .stands in
+    let all = carried-by _ (k .pre) _ (sym (a .add .ensures .answered) ∙ c .before .before .before .before .before .enum-told2 .given .1) in
+    load-done (target-carried _ _ (k .pre) (a .before .before .if1 .left) refl all) (record { stands = S; added-up = sym (stands-bits S ∙ all); written = c .before .before .write .ensures _ S })
 
 pub target-spec : {M : Type 1} → statement M
 target-spec =
@@ -63,9 +59,11 @@ target-spec =
     cast-if1
     mul-if1
     returns
+    flatten-requires
     add-requires
-    total-bits-requires
-    returns-2
+    enum-told
+    enum-told-2
     write-requires
+    returns-2
     same-length
     returns-3)

@@ -7,21 +7,18 @@ use Rattle.starts.proofs.Stands.{no-bits-stand}
 use Rattle.lineruns.proofs.add.Statement.{statement}
 use Rattle.lineruns.proofs.add.Tie as tie
 
-flatten-requires : tie.Need-flatten-requires
-flatten-requires c κs = search needs
-
 no-bits-requires : tie.Need-no-bits-requires
 no-bits-requires c κs = search needs
 
 -- no bits: where the run starts
-start : (c : tie.After-no-bits) → Stands (c .before .before .args .line) (c .no-bits .result) (noBits (tones (c .before .before .args .line)))
-start c = rw (c .no-bits .ensures) (no-bits-stand (c .before .before .args .line) (c .before .before .pre))
+start : (c : tie.After-no-bits) → Stands (c .before .args .line) (c .no-bits .result) (noBits (tones (c .before .args .line)))
+start c = rw (c .no-bits .ensures) (no-bits-stand (c .before .args .line) (c .before .pre .0))
 
 run-line-requires : tie.Need-run-line-requires
-run-line-requires c κs = (c .before .before .pre, c .before .flatten .ensures, record { table = _; stands = start c })
+run-line-requires c κs = (c .before .pre .0, c .before .pre .1, record { table = _; stands = start c })
 
 returns : tie.Need-returns
-returns c = c .before .run-line .ensures _ (start (c .before .before)) .stands
+returns c = c .run-line .ensures _ (start (c .before))
 
 pub add-spec : {M : Type 1} → statement M
-add-spec = tie.close (tie.spec flatten-requires no-bits-requires run-line-requires returns)
+add-spec = tie.close (tie.spec no-bits-requires run-line-requires returns)

@@ -1,20 +1,17 @@
 -- `starts::from_start` meets its contract. Between the turns the tones below i are copied, with their power. Assumes nothing.
-use Prim.Native.Nat.{_-_, _<_}
+use Prim.Native.Nat.{_-_}
 use native.Mathlib.Omega.{arith}
 use borrow.Author.Needs.{needs}
-use lib.ListN.{getD}
-use Rattle.silence.specs.Map.{silenced}
-use Rattle.line.specs.Line.{blank}
-use Rattle.line.proofs.Masks.{within-cap}
-use Rattle.starts.proofs.Copied.{Copied, none-copied, power-room, copied-more, copied-stands}
+use lib.ListN.{length}
+use Rattle.starts.proofs.Copied.{Copied, none-copied, power-room, copied-more, copied-power}
 use Rattle.starts.proofs.from_start.Statement.{statement}
 use Rattle.starts.proofs.from_start.Tie as tie
 
 abbrev Inv-loop : tie.InvT-loop
-Inv-loop start line running₀ i₀ running i = Copied line start running i
+Inv-loop start costs doublings running₀ i₀ running i = Copied costs doublings start running i
 
 abbrev μ-loop : tie.MeasureT-loop
-μ-loop start line running₀ i₀ running i = line .size - i
+μ-loop start costs doublings running₀ i₀ running i = length start - i
 
 no-bits-requires : tie.Need-no-bits-requires Inv-loop μ-loop
 no-bits-requires c κs = search needs
@@ -22,38 +19,34 @@ no-bits-requires c κs = search needs
 loop-holds : tie.Need-loop-holds Inv-loop μ-loop
 loop-holds c = rw (c .no-bits .ensures) none-copied
 
-cast-loop : tie.Need-cast-loop Inv-loop μ-loop
-cast-loop c = search needs
-
-mul-entry : tie.Need-mul-entry Inv-loop μ-loop
-mul-entry c = record { fits = omega arith }
-
-element-copy-out-entry : tie.Need-element-copy-out-entry Inv-loop μ-loop
-element-copy-out-entry c = omega arith
-
 shared-slice-read-running : tie.Need-shared-slice-read-running Inv-loop μ-loop
 shared-slice-read-running c = omega arith
 
 element-write-running : tie.Need-element-write-running Inv-loop μ-loop
 element-write-running c = omega arith
 
-shared-slice-read-power-of : tie.Need-shared-slice-read-power-of Inv-loop μ-loop
-shared-slice-read-power-of c = omega arith
+mul-power-at : tie.Need-mul-power-at Inv-loop μ-loop
+mul-power-at c = omega arith
 
-power-of-requires : tie.Need-power-of-requires Inv-loop μ-loop
-power-of-requires c κs =
-    let a = c .before .before .before .before in
-    let p = a .before .before .before .pre in
-    let l = a .before .before .before .args .t2 in
-    let i = a .loop .i in
-    let il : i < l .size = omega arith in
-    (p .0 .gap, p .0 .entries i il, within-cap (l .gap) (getD (l .entries) i blank .slot) (silenced (l .maps) i) _ (p .1 .under i il))
+element-copy-out-power-at : tie.Need-element-copy-out-power-at Inv-loop μ-loop
+element-copy-out-power-at c = omega arith
+
+element-copy-out-power-at-2 : tie.Need-element-copy-out-power-at-2 Inv-loop μ-loop
+element-copy-out-power-at-2 c = omega arith
+
+shared-slice-read-power-at : tie.Need-shared-slice-read-power-at Inv-loop μ-loop
+shared-slice-read-power-at c = omega arith
+
+power-at-requires : tie.Need-power-at-requires Inv-loop μ-loop
+power-at-requires c κs =
+    let ready = c .before .before .before .before .before .before .before .before .pre .1 in
+    (ready .cost-high _ (omega arith), ready .shift-high _ (omega arith))
 
 add-running : tie.Need-add-running Inv-loop μ-loop
 add-running c =
-    let a = c .before .before .before .before .before in
+    let a = c .before .before .before .before .before .before in
     let p = a .before .before .before .pre in
-    omega (arith, c .power-of .ensures, a .loop .inv .power, power-room _ _ (p .0) (p .1) (a .loop .i) (omega arith))
+    omega (arith, c .power-at .ensures, a .loop .inv .power, power-room (p .1) (a .loop .i) (omega arith) (p .0))
 
 add-i : tie.Need-add-i Inv-loop μ-loop
 add-i c = omega arith
@@ -62,11 +55,12 @@ loop-less : tie.Need-loop-less Inv-loop μ-loop
 loop-less c = omega arith
 
 loop-again : tie.Need-loop-again Inv-loop μ-loop
-loop-again c =
-    copied-more (c .before .before .before .before .before .loop .inv) _ (omega arith) (omega arith) (c .power-of .ensures)
+loop-again c = copied-more (c .before .before .before .before .before .before .loop .inv) _ (omega arith) (omega arith) (c .power-at .ensures)
 
 returns : tie.Need-returns Inv-loop μ-loop
-returns c = copied-stands (c .before .loop .inv) (omega arith) (c .before .before .before .before .pre .1)
+returns c =
+    let C = c .before .loop .inv in
+    ((λ i il. C .same-bits i (omega arith)), λ T same powers. copied-power C T (omega arith) powers)
 
 pub from-start-spec : {M : Type 1} → statement M
 from-start-spec =
@@ -76,13 +70,13 @@ from-start-spec =
     μ-loop
     no-bits-requires
     loop-holds
-    cast-loop
-    mul-entry
-    element-copy-out-entry
     shared-slice-read-running
     element-write-running
-    shared-slice-read-power-of
-    power-of-requires
+    mul-power-at
+    element-copy-out-power-at
+    element-copy-out-power-at-2
+    shared-slice-read-power-at
+    power-at-requires
     add-running
     add-i
     loop-less

@@ -1,57 +1,49 @@
 -- `tables::put_table` meets its contract. Between the turns the entries of the tones below i are written. Assumes nothing.
 use mathlib.Core.Path.{_≡_}
-use Prim.Native.Nat.{_-_, _*_, _≤_, _<_}
+use Prim.Native.Nat.{_-_, _*_, _≤_}
 use native.Mathlib.Omega.{arith}
-use lib.ListN.{getD}
 use Rattle.bigendian.proofs.Stores.{Written, written-none, written-next}
-use Rattle.silence.specs.Map.{silenced}
-use Rattle.line.specs.Line.{blank, tones}
-use Rattle.line.proofs.Masks.{within-cap}
 use Rattle.tables.specs.Tables.{entriesBelow}
-use Rattle.tables.proofs.Entries.{entries-grow, length-entry}
+use Rattle.tables.proofs.Entries.{entries-grow, length-entry, plain, plain-table-bytes}
 use Rattle.tables.proofs.put_table.Statement.{statement}
 use Rattle.tables.proofs.put_table.Tie as tie
 
 abbrev Inv-loop : tie.InvT-loop
-Inv-loop out₀ line bits i₀ out i = (i ≤ line .size) × Written (entriesBelow (tones line) bits) out₀ 0 i out (9 * i)
+Inv-loop out₀ count costs doublings bits i₀ out i = (i ≤ count) × Written (entriesBelow (plain costs doublings) bits) out₀ 0 i out (9 * i)
 
 abbrev μ-loop : tie.MeasureT-loop
-μ-loop out₀ line bits i₀ out i = line .size - i
+μ-loop out₀ count costs doublings bits i₀ out i = count - i
 
 loop-holds : tie.Need-loop-holds Inv-loop μ-loop
 loop-holds c =
     let a = c .before .args in
-    (omega arith, written-none (entries-grow (tones (a .t2)) (a .t3)) (a .out .now) 0)
+    (omega arith, written-none (entries-grow (plain (a .costs .now) (a .doublings .now)) (a .bits .now)) (a .out .now) 0)
 
-cast-loop : tie.Need-cast-loop Inv-loop μ-loop
-cast-loop c = omega arith
+mul-power-at : tie.Need-mul-power-at Inv-loop μ-loop
+mul-power-at c = omega arith
 
-mul-entry : tie.Need-mul-entry Inv-loop μ-loop
-mul-entry c = record { fits = omega arith }
+element-copy-out-power-at : tie.Need-element-copy-out-power-at Inv-loop μ-loop
+element-copy-out-power-at c = omega arith
 
-element-copy-out-entry : tie.Need-element-copy-out-entry Inv-loop μ-loop
-element-copy-out-entry c = omega arith
+element-copy-out-power-at-2 : tie.Need-element-copy-out-power-at-2 Inv-loop μ-loop
+element-copy-out-power-at-2 c = omega arith
 
-array-read-power-of : tie.Need-array-read-power-of Inv-loop μ-loop
-array-read-power-of c = omega arith
+element-copy-out-power-at-3 : tie.Need-element-copy-out-power-at-3 Inv-loop μ-loop
+element-copy-out-power-at-3 c = omega arith
 
-power-of-requires : tie.Need-power-of-requires Inv-loop μ-loop
-power-of-requires c κs =
-    let s = c .before .before .before .before in
-    let l = s .args .t2 in
-    let i = c .before .before .loop .i in
-    let h : i < l .size = omega arith in
-    (s .pre .0 .gap, s .pre .0 .entries i h, within-cap (l .gap) (getD (l .entries) i blank .slot) (silenced (l .maps) i) _ (s .pre .1 .under i h))
+power-at-requires : tie.Need-power-at-requires Inv-loop μ-loop
+power-at-requires c κs =
+    let ready = c .before .before .before .before .before .before .pre .1 in
+    (ready .cost-high _ (omega arith), ready .shift-high _ (omega arith))
 
 mul-put-tone : tie.Need-mul-put-tone Inv-loop μ-loop
 mul-put-tone c = omega arith
 
-array-read-put-tone : tie.Need-array-read-put-tone Inv-loop μ-loop
-array-read-put-tone c = omega arith
+element-copy-out-put-tone : tie.Need-element-copy-out-put-tone Inv-loop μ-loop
+element-copy-out-put-tone c = omega arith
 
 put-tone-requires : tie.Need-put-tone-requires Inv-loop μ-loop
-put-tone-requires c κs =
-    omega (arith, c .before .before .before .before .loop .inv .1 .same-length)
+put-tone-requires c κs = omega (arith, c .before .before .before .before .before .before .before .loop .inv .1 .same-length)
 
 add-i : tie.Need-add-i Inv-loop μ-loop
 add-i c = omega arith
@@ -61,22 +53,22 @@ loop-less c = omega arith
 
 loop-again : tie.Need-loop-again Inv-loop μ-loop
 loop-again c =
-    let w = c .before .before in
-    let p = w .before .before in
-    let a = p .before .before .before in
+    let p = c .before .before .before .before .before in
+    let a = p .before .before .before .before .before in
     let s = a .before .before .args in
-    let T = tones (s .t2) in
-    let stored = rw (p .power-of .ensures) at (w .put-tone .ensures) in
-    (omega arith, written-next (entries-grow T (s .t3)) (s .out .now) 0 (a .loop .inv .1) (omega (arith, length-entry T (s .t3) (a .loop .i))) stored)
+    let T = plain (s .costs .now) (s .doublings .now) in
+    let t = s .bits .now in
+    let stored = rw (p .power-at .ensures) at (c .before .before .put-tone .ensures) in
+    (omega arith, written-next (entries-grow T t) (s .out .now) 0 (a .loop .inv .1) (omega (arith, length-entry T t (a .loop .i))) stored)
 
 same-length : tie.Need-same-length Inv-loop μ-loop
 same-length c = c .before .loop .inv .1 .same-length
 
 returns : tie.Need-returns Inv-loop μ-loop
-returns c =
+returns c = λ T same powers.
     let a = c .before in
-    let e : a .loop .i ≡ a .before .before .args .t2 .size = omega arith in
-    rw e at (a .loop .inv .1 .stores)
+    let e : a .loop .i ≡ T .count = omega arith in
+    rw (e, plain-table-bytes T (a .before .before .args .bits .now) powers) at (a .loop .inv .1 .stores)
 
 pub put-table-spec : {M : Type 1} → statement M
 put-table-spec =
@@ -85,13 +77,13 @@ put-table-spec =
     Inv-loop
     μ-loop
     loop-holds
-    cast-loop
-    mul-entry
-    element-copy-out-entry
-    array-read-power-of
-    power-of-requires
+    mul-power-at
+    element-copy-out-power-at
+    element-copy-out-power-at-2
+    element-copy-out-power-at-3
+    power-at-requires
     mul-put-tone
-    array-read-put-tone
+    element-copy-out-put-tone
     put-tone-requires
     add-i
     loop-less

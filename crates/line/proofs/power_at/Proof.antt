@@ -1,0 +1,33 @@
+-- `line::power_at` meets its contract. Assumes nothing.
+use mathlib.Core.Path.{_≡_}
+use Prim.Native.Nat.{_*_, _%_, _^_}
+use native.Mathlib.Nat.{mul-le-mul-left}
+use native.Mathlib.Omega.{arith}
+use lib.Pow.{pow-pos, shl-exact}
+use borrow.Author.Needs.{needs}
+use Rattle.line.proofs.power_at.Statement.{statement}
+use Rattle.line.proofs.power_at.Tie as tie
+
+-- the shift loses no bit
+exact : (c : tie.Start) → (c .args .cost * 2 ^ (c .args .doublings * c .args .bits)) % 2 ^ 64
+    ≡ c .args .cost * 2 ^ (c .args .doublings * c .args .bits)
+exact c = shl-exact 24 (c .args .doublings * c .args .bits) 64 (c .pre .0) (omega (arith, c .pre .1))
+
+mul-result : tie.Need-mul-result
+mul-result c = search needs
+
+cast-result : tie.Need-cast-result
+cast-result c = search needs
+
+shl-result : tie.Need-shl-result
+shl-result c = search needs
+
+sub-result : tie.Need-sub-result
+sub-result c =
+    rw (exact c) (omega (arith, mul-le-mul-left (c .args .cost) (pow-pos (c .args .doublings * c .args .bits))))
+
+returns : tie.Need-returns
+returns c = rw (exact c)
+
+pub power-at-spec : {M : Type 1} → statement M
+power-at-spec = tie.close (tie.spec mul-result cast-result shl-result sub-result returns)

@@ -1,0 +1,62 @@
+-- The rules by name, what the code knows of a table when it asks for the next move, and what a move says.
+-- Assumes nothing.
+use mathlib.Core.List.{List}
+use mathlib.Core.Option.{some}
+use mathlib.Core.Path.{_≡_}
+use Prim.Native.Nat.{ℕ, _-_, _^_, _≤_, _<_}
+use Rattle.steps.specs.Tones.{Tones, step, Rising, Before, Table, _!_, totalPower, KeepsLimits}
+use Rattle.steps.specs.Runs as rule
+use Rattle.places.specs.Places.{Describes, placeFree, placeHeld}
+use Rattle.moves.specs.declared.Rule.{Rule}
+use Rattle.moves.specs.declared.Rule.the-variants.{Add, Refit}
+use Rattle.moves.specs.declared.Step.{Step}
+use Rattle.moves.specs.declared.Move.{Move}
+use Rattle.moves.specs.declared.Move.the-variants.{Nothing, Take, GiveUp, Exchange}
+
+-- the rule that a name stands for
+abbrev pub ruleOf : Rule → Tones → (budget : ℕ) → Table → rule.Answer
+ruleOf Add = rule.addStep
+ruleOf Refit = rule.refitStep
+
+-- The arrays, the bits and a total power stand for table t of tones T, which keeps the limits.
+pub record StandsFor (count : ℕ) (limits costs doublings bits : List ℕ) (power : ℕ) (T : Tones) (t : Table) : Type 0 where
+  pub describes : Describes count limits costs doublings bits T t
+  pub same-power : power ≡ totalPower T t
+  pub rising : Rising T
+  pub within : KeepsLimits T t
+
+-- There are at most 256 tones, and below the limits no step is 0, or 2^39 or more.
+pub record Small (T : Tones) : Type 0 where
+  pub count-high : T .count ≤ 256
+  pub size-low : (i b : ℕ) → i < T .count → b < T .limit i → 0 < step T i b
+  pub size-high : (i b : ℕ) → i < T .count → b < T .limit i → step T i b < 2 ^ 39
+
+-- What the code knows of table t: its total power, and the places of its earliest free and its latest held step.
+pub record Knows (T : Tones) (t : Table) (power earliest latest : ℕ) : Type 0 where
+  pub small : Small T
+  pub rising : Rising T
+  pub within : KeepsLimits T t
+  pub same-power : power ≡ totalPower T t
+  pub earliest-at : earliest ≡ placeFree T t (rule.earliestFree T t)
+  pub latest-at : latest ≡ placeHeld T t (rule.latestHeld T t)
+
+-- f is the earliest free step, h the latest held one
+pub record Takes (T : Tones) (t : Table) (f : Step) : Type 0 where
+  pub found : rule.earliestFree T t ≡ some (f .tone)
+  pub sized : f .size ≡ step T (f .tone) (t ! f .tone)
+
+pub record GivesUp (T : Tones) (t : Table) (h : Step) : Type 0 where
+  pub found : rule.latestHeld T t ≡ some (h .tone)
+  pub sized : h .size ≡ step T (h .tone) (t ! h .tone - 1)
+
+pub record Exchanges (T : Tones) (t : Table) (h f : Step) : Type 0 where
+  pub gives-up : GivesUp T t h
+  pub takes : Takes T t f
+  pub before : Before T (f .tone) (t ! f .tone) (h .tone) (t ! h .tone - 1)
+
+-- A move is the one that a rule's answer for table t calls for.
+abbrev pub Names : Tones → Table → Move → rule.Answer → Type 0
+Names T t Nothing a = a ≡ rule.finished
+Names T t (Take f) a = (a ≡ rule.moved (rule.taking t (f .tone))) × Takes T t f
+Names T t (GiveUp h) a = (a ≡ rule.moved (rule.givingUp t (h .tone))) × GivesUp T t h
+Names T t (Exchange h f) a = (a ≡ rule.moved (rule.taking (rule.givingUp t (h .tone)) (f .tone))) × Exchanges T t h f

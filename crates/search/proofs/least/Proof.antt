@@ -1,0 +1,122 @@
+-- `search::least` meets its contract: between its turns it knows the least of the places passed, four for each turn. Assumes nothing.
+use mathlib.Core.Path.{_≡_}
+use mathlib.Core.List.{List}
+use Prim.Native.Nat.{ℕ, _+_, _-_, _*_, _≤_}
+use native.Mathlib.Omega.{arith}
+use borrow.Author.Needs.{needs}
+use Rattle.places.specs.Places.{noStep}
+use Rattle.search.proofs.Parts.{Part, none-yet, four-more, part-least}
+use Rattle.search.proofs.least.Statement.{statement}
+use Rattle.search.proofs.least.Tie as tie
+
+-- the tones below i are passed; 256 is a multiple of four, so four more are there while one is
+record Passed (places : List ℕ) (least i : ℕ) : Type 0 where
+  turns : ℕ
+  fours : i ≡ 4 * turns
+  within : i ≤ 256
+  part : Part places 0 i least
+
+abbrev Inv-loop : tie.InvT-loop
+Inv-loop count places least₀ i₀ least i = Passed places least i
+
+abbrev μ-loop : tie.MeasureT-loop
+μ-loop count places least₀ i₀ least i = 256 - i
+
+loop-holds : tie.Need-loop-holds Inv-loop μ-loop
+unfolding noStep
+loop-holds c = record { turns = 0; fours = omega arith; within = omega arith; part = none-yet }
+
+mul-lesser : tie.Need-mul-lesser Inv-loop μ-loop
+mul-lesser c = search needs
+
+element-copy-out-lesser : tie.Need-element-copy-out-lesser Inv-loop μ-loop
+element-copy-out-lesser c = search needs
+
+add-lesser : tie.Need-add-lesser Inv-loop μ-loop
+add-lesser c = search needs
+
+mul-lesser-2 : tie.Need-mul-lesser-2 Inv-loop μ-loop
+mul-lesser-2 c = search needs
+
+element-copy-out-lesser-2 : tie.Need-element-copy-out-lesser-2 Inv-loop μ-loop
+element-copy-out-lesser-2 c = search needs
+
+lesser-requires : tie.Need-lesser-requires Inv-loop μ-loop
+lesser-requires c κs = search needs
+
+add-lesser-2 : tie.Need-add-lesser-2 Inv-loop μ-loop
+add-lesser-2 c = search needs
+
+mul-lesser-3 : tie.Need-mul-lesser-3 Inv-loop μ-loop
+mul-lesser-3 c = search needs
+
+element-copy-out-lesser-3 : tie.Need-element-copy-out-lesser-3 Inv-loop μ-loop
+element-copy-out-lesser-3 c = search needs
+
+add-lesser-3 : tie.Need-add-lesser-3 Inv-loop μ-loop
+add-lesser-3 c = search needs
+
+mul-lesser-4 : tie.Need-mul-lesser-4 Inv-loop μ-loop
+mul-lesser-4 c = search needs
+
+element-copy-out-lesser-4 : tie.Need-element-copy-out-lesser-4 Inv-loop μ-loop
+element-copy-out-lesser-4 c = search needs
+
+lesser-requires-2 : tie.Need-lesser-requires-2 Inv-loop μ-loop
+lesser-requires-2 c κs = search needs
+
+lesser-requires-3 : tie.Need-lesser-requires-3 Inv-loop μ-loop
+lesser-requires-3 c κs = search needs
+
+lesser-requires-4 : tie.Need-lesser-requires-4 Inv-loop μ-loop
+lesser-requires-4 c κs = search needs
+
+add-i : tie.Need-add-i Inv-loop μ-loop
+add-i c = search needs
+
+loop-less : tie.Need-loop-less Inv-loop μ-loop
+loop-less c = search needs
+
+loop-again : tie.Need-loop-again Inv-loop μ-loop
+loop-again c =
+    let a = c .before .before .before .before .before .before .before .before .before in
+    let v = a .loop .inv in
+    record {
+      turns = v .turns + 1;
+      fours = omega (arith, v .fours);
+      within = omega (arith, v .fours, a .before .pre .0);
+      part = rw (c .lesser4 .ensures, c .before .lesser3 .ensures, c .before .before .lesser2 .ensures, c .before .before .before .before .before .lesser .ensures) (four-more (v .part));
+    }
+
+returns : tie.Need-returns Inv-loop μ-loop
+returns c =
+    let v = c .before .loop .inv in
+    let p = c .before .before .pre in
+    part-least (v .part) (omega arith) (v .within) (p .1)
+
+pub least-spec : {M : Type 1} → statement M
+least-spec =
+    tie.close
+    (tie.spec
+    Inv-loop
+    μ-loop
+    loop-holds
+    mul-lesser
+    element-copy-out-lesser
+    add-lesser
+    mul-lesser-2
+    element-copy-out-lesser-2
+    lesser-requires
+    add-lesser-2
+    mul-lesser-3
+    element-copy-out-lesser-3
+    add-lesser-3
+    mul-lesser-4
+    element-copy-out-lesser-4
+    lesser-requires-2
+    lesser-requires-3
+    lesser-requires-4
+    add-i
+    loop-less
+    loop-again
+    returns)
