@@ -14,7 +14,7 @@ use Rattle.command.specs.declared.Refusal.{Refusal}
 use Rattle.command.specs.declared.Command.{Command}
 use Rattle.command.specs.declared.Command.the-variants as command
 use Rattle.command.specs.declared.Decoded.{Decoded}
-use Rattle.command.specs.Rows.{pick, Seen, Operand, Row, size, gap, budget, tone, silence, end, width, allowed, withCode, judged, operandsFrom, rowAt, decodedRow, decoded}
+use Rattle.command.specs.Rows.{pick, Seen, Operand, Row, size, silence, width, allowed, withCode, judged, operandsFrom, rowAt, decodedRow, decoded}
 
 -- what holds on both sides of a test holds of what it picks
 pub by-test : {A : Type 0} (P : A → Type 0) (t : Bool) {a b : A} → (t ≡ true → P a) → (t ≡ false → P b) → P (pick t a b)

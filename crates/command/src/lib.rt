@@ -2,7 +2,7 @@
 ghost use mathlib.Core.Path.{_≡_};
 ghost use mathlib.Core.Bool.{Bool};
 ghost use Prim.Native.Nat.{ℕ, _+_, _≤_, _<_};
-ghost use lib.ListN.{length, getD};
+ghost use lib.ListN.{length};
 ghost use Rattle.command.specs.declared.Refusal.the-variants.{OperandOutOfRange};
 ghost use Rattle.command.specs.declared.Command.the-variants.{Refused};
 ghost use Rattle.command.specs.Refusals.{refusalNumber, refusalPlace};

@@ -7,7 +7,6 @@ use Prim.Native.Nat.{ℕ, suc, _-_, _*_, _^_, _≤_, _<_}
 use native.Mathlib.Nat.{mul-le-mul-left, le-trans}
 use native.Mathlib.Omega.{arith}
 use lib.ListN.{getD}
-use lib.Pow.{pow-pos}
 use Rattle.silence.specs.Map.{silenced}
 use Rattle.steps.specs.Tones.{step}
 use Rattle.line.specs.declared.Slot.{Slot}
@@ -55,11 +54,7 @@ limit-same g (Described t) false = refl
 -- the limits and steps that the runs go by, as the arrays give them
 pub record SameSteps (l : Line) (a : Arrays) : Type 0 where
   pub limits : (i : ℕ) → i < l .size → tones l .limit i ≡ getD (a .limits) i 0
-  pub steps : (i b : ℕ) → i < l .size → b < tones l .limit i → step (tones l) i b ≡ getD (a .costs) i 0 * 2 ^ (getD (a .doublings) i 0 * suc b) - getD (a .costs) i 0 * 2 ^ (getD (a .doublings) i 0 * b)
-
--- a step by the two powers: the cost that both leave out makes no difference
-less-cost : (w d b : ℕ) → powerIn w d (suc b) - powerIn w d b ≡ w * 2 ^ (d * suc b) - w * 2 ^ (d * b)
-less-cost w d b = omega (arith, mul-le-mul-left w (pow-pos (d * b)))
+  pub steps : (i b : ℕ) → i < l .size → b < tones l .limit i → step (tones l) i b ≡ powerIn (getD (a .costs) i 0) (getD (a .doublings) i 0) (suc b) - powerIn (getD (a .costs) i 0) (getD (a .doublings) i 0) b
 
 module _ (l : Line) (ready : LineInRange l) (a : Arrays) (h : Holds l a) where
   small-at : (i : ℕ) → i < l .size → Small (stepsAt l i)
@@ -84,7 +79,7 @@ module _ (l : Line) (ready : LineInRange l) (a : Arrays) (h : Holds l a) where
   unfolding step
   arrays-steps = record {
     limits = limit-at;
-    steps = λ i b il bl. rw (power-at i (suc b) il bl, power-at i b il (omega arith)) (less-cost (getD (a .costs) i 0) (getD (a .doublings) i 0) b);
+    steps = λ i b il bl. rw (power-at i (suc b) il bl, power-at i b il (omega arith));
   }
 
   -- the powers of bits within the limits

@@ -4,20 +4,17 @@ use mathlib.Core.Path.{_≡_, refl}
 use mathlib.Core.Bool.{Bool, true, false}
 use mathlib.Core.List.{List, [], _∷_}
 use mathlib.Core.Option.{Option, none, some}
-use Prim.Native.Nat.{ℕ, zero, suc, _≤_, _<_}
+use Prim.Native.Nat.{ℕ, zero, suc, _<_}
 use native.Mathlib.Decide.{decLt, decLe, ℕ-discrete}
 use native.Mathlib.Omega.{arith}
 use borrow.Author.Needs.{needs}
 use lib.Dec.{T}
 use lib.ListN.{length, getD}
-use Rattle.steps.specs.Tones.{step, before?, Table, powers, sum, list, totalBits, totalPower, sumOfLimits, KeepsLimits}
+use Rattle.steps.specs.Tones.{step, before?, Table, powers, sum, list, totalBits, totalPower, sumOfLimits}
 use Rattle.steps.specs.Runs.{against, choice, earliestFree, latestHeld, Answer, moved, finished, fits?, takeIfFits, giveUpOrTake, refitMove, addStep, addStepTo, refitStep, follow, run, mostBits, refitRun, carrying, setBits}
-use Rattle.steps.specs.Claims.{SetBits, Carries, Cheapest}
 use Rattle.steps.proofs.SetBits.{too-many}
-use Rattle.line.specs.declared.Numbers.{Numbers}
-use Rattle.line.specs.declared.Kind.{Kind}
-use Rattle.line.specs.declared.Kind.the-variants.{Pair, Single}
-use Rattle.line.specs.Tone.{carriedBy, mostCap, cost, powerOf, largest, limit, InRange}
+use Rattle.line.specs.declared.Kind.the-variants.{Pair}
+use Rattle.line.specs.Tone.{cost, powerOf, largest, limit}
 use Rattle.line.specs.Line.{blank, EntryInRange, LineInRange}
 use Rattle.line.specs.Cases.{Row, most, granted, refused, never, refits, costs, limits, tone, sample, sampleTones, Through, Holds, rows}
 use Rattle.line.proofs.Loads.{line-rising, no-bits-fit}

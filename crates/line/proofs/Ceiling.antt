@@ -1,8 +1,7 @@
 -- The ceiling of a fraction is the smallest whole number not below it; so the cost is what document 01 calls it.
 -- Assumes nothing.
-use mathlib.Core.Path.{_≡_}
-use Prim.Native.Nat.{ℕ, zero, suc, _+_, _-_, _*_, _/_, _≤_, _<_}
-use native.Mathlib.Nat.{le-div-iff-mul-le, div-lt-iff-lt-mul, mul-le-mul, mul-le-mul-left, mul-le-mul-right}
+use Prim.Native.Nat.{ℕ, zero, suc, _+_, _-_, _*_, _≤_, _<_}
+use native.Mathlib.Nat.{le-div-iff-mul-le, div-lt-iff-lt-mul, mul-le-mul}
 use native.Mathlib.Omega.{arith}
 use Rattle.line.specs.declared.Tone.{Tone}
 use Rattle.line.specs.Tone.{carried, InRange, Gap, Cost, ceiling, cost}

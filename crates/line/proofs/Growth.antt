@@ -1,8 +1,8 @@
 -- Powers and steps that grow by a power of 2, for either kind. The kinds are told apart in `power-shift` and in the bounds on doublings and shifts.
 -- Assumes nothing.
-use mathlib.Core.Path.{_≡_, refl, sym, ap, _∙_}
+use mathlib.Core.Path.{_≡_, refl, ap, _∙_}
 use Prim.Native.Nat.{ℕ, zero, suc, _+_, _-_, _*_, _^_, _≤_, _<_}
-use native.Mathlib.Nat.{mul-sub, mul-suc, pow-suc, mul-comm, mul-assoc, mul-le-mul, mul-le-mul-left, mul-le-mul-right}
+use native.Mathlib.Nat.{mul-sub, mul-suc, pow-suc, mul-le-mul, mul-le-mul-left}
 use native.Mathlib.Omega.{arith}
 use lib.Pow.{pow-pos, pow-add, pow-mono}
 use Rattle.line.specs.declared.Kind.{Kind}

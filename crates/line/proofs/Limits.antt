@@ -1,6 +1,6 @@
 -- The limit of a tone is what document 01 calls it, and the number of bits at which the search stops.
 -- Assumes nothing.
-use mathlib.Core.Path.{_≡_, sym}
+use mathlib.Core.Path.{_≡_}
 use Prim.Native.Nat.{ℕ, suc, _≤_, _<_}
 use native.Mathlib.Nat.{le-of-suc-le-suc, lt-of-not-le, not-le-of-lt, le-trans}
 use native.Mathlib.Decide.{decLe, le-ind}
@@ -8,7 +8,7 @@ use native.Mathlib.Omega.{arith}
 use Rattle.line.specs.declared.Kind.{Kind}
 use Rattle.line.specs.declared.Kind.the-variants.{Pair, Single}
 use Rattle.line.specs.declared.Tone.{Tone}
-use Rattle.line.specs.Tone.{carried, mostCap, InRange, power, largest, limit}
+use Rattle.line.specs.Tone.{carried, mostCap, InRange, power, limit}
 use Rattle.line.proofs.Largest.{Largest, largest-is, largest-unique}
 use Rattle.line.proofs.Growth.{power-zero, power-grows}
 

@@ -6,7 +6,7 @@ use Prim.Native.Nat.{ℕ, suc, _+_, _≤_, _<_}
 use native.Mathlib.Omega.{arith}
 use lib.ListN.{getD, getD-replicate}
 use Rattle.silence.specs.Map.{silenced}
-use Rattle.steps.specs.Tones.{Tones, Rising, Table, _!_, noBits, totalPower, KeepsLimits, KeepsBudget}
+use Rattle.steps.specs.Tones.{Rising, Table, _!_, noBits, KeepsLimits, KeepsBudget}
 use Rattle.steps.specs.Runs.{setBits}
 use Rattle.steps.specs.Claims.{Demand3, SetBits}
 use Rattle.steps.proofs.Sums.{sum-zero}

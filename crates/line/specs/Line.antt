@@ -7,7 +7,6 @@ use Prim.Native.Nat.{ℕ, suc, _-_, _*_, _^_, _≤_, _<_}
 use lib.ListN.{getD}
 use Rattle.silence.specs.Map.{silenced}
 use Rattle.steps.specs.Tones.{Tones}
-use Rattle.line.specs.declared.Tone.{Tone}
 use Rattle.line.specs.declared.Slot.{Slot}
 use Rattle.line.specs.declared.Slot.the-variants.{Undescribed, Described}
 use Rattle.line.specs.declared.Entry.{Entry}

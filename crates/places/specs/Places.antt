@@ -9,15 +9,16 @@ use Prim.Native.Nat.{ℕ, suc, _+_, _-_, _*_, _^_, _≤_, _<_}
 use lib.Dec.{ltb}
 use lib.ListN.{getD}
 use Rattle.steps.specs.Tones.{Tones, step, Table, _!_}
+use Rattle.line.specs.Line.{powerIn}
 
 -- a test of the code, as a choice
 abbrev pub pick {ℓ} : {A : Type ℓ} → Bool → A → A → A
 pick true a b = a
 pick false a b = b
 
--- The step at b bits. A power is the cost, doubled `doublings` × bits times, less the cost.
+-- 'The step of a tone at b bits is the power of b + 1 bits less the power of b.'
 abbrev pub stepSize : (cost doublings b : ℕ) → ℕ
-stepSize cost doublings b = cost * 2 ^ (doublings * suc b) - cost * 2 ^ (doublings * b)
+stepSize cost doublings b = powerIn cost doublings (suc b) - powerIn cost doublings b
 
 -- the step of tone i at b bits, by the arrays
 abbrev pub stepIn : (costs doublings : List ℕ) → (i b : ℕ) → ℕ

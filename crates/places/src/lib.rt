@@ -7,11 +7,10 @@ ghost use Rattle.places.specs.Places.{InRange, Under, stepSize, freePlac
 
 // The size of the step at a number of bits: the power of one bit more, less the power.
 fn step_size(cost: u64, doublings: u8, bits: u8) -> u64
-    requires { ⌜ (cost < 2 ^ 24) × (doublings * suc bits ≤ 15) ⌝ }
+    requires { ⌜ (cost < 2 ^ 24) × (doublings * suc bits ≤ 15) × (bits < 255) ⌝ }
     ensures { λ r. ⌜ r ≡ stepSize cost doublings bits ⌝ }
 {
-    let power = cost << (doublings as u32 * bits as u32);
-    (cost << (doublings as u32 * (bits as u32 + 1))) - power
+    line::power_at(cost, doublings, bits + 1) - line::power_at(cost, doublings, bits)
 }
 
 // The place of a tone's earliest free step; the largest number where none is free.

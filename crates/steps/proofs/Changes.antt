@@ -11,7 +11,7 @@ use Rattle.steps.specs.Tones.{Tones, step, Rising, Before, Table, _!_, s
 use Rattle.steps.specs.Runs.{taking, givingUp}
 use Rattle.steps.specs.Claims.{Efficient}
 use Rattle.steps.proofs.Sums.{sum-at}
-use Rattle.steps.proofs.Order.{adds, place, before-place, place-before, place-lt, place-rises}
+use Rattle.steps.proofs.Order.{adds, place, place-before, place-lt, place-rises}
 use Rattle.steps.proofs.Search.{Earliest, Latest}
 
 -- an entry of a table after a store

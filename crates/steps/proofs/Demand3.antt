@@ -1,11 +1,11 @@
 -- Both runs end in the final table, whatever the start: demand 3 as one theorem over the two whole runs.
 -- Assumes nothing.
 use mathlib.Core.Path.{_≡_, refl, ap}
-use Prim.Native.Nat.{ℕ, suc, _+_, _-_, _≤_, _<_}
+use Prim.Native.Nat.{ℕ, suc, _-_, _<_}
 use native.Mathlib.Omega.{arith}
 use lib.ListN.{length-replicate, getD-replicate}
-use Rattle.steps.specs.Tones.{Tones, step, Rising, Table, _!_, noBits, powers, totalBits, totalPower, sumOfLimits, KeepsLimits, KeepsBudget}
-use Rattle.steps.specs.Runs.{taking, Answer, moved, finished, addStep, refitStep, run, mostBits, refitRun}
+use Rattle.steps.specs.Tones.{Tones, Rising, Table, _!_, noBits, powers, totalBits, totalPower, sumOfLimits, KeepsLimits, KeepsBudget}
+use Rattle.steps.specs.Runs.{Answer, moved, finished, addStep, refitStep, mostBits, refitRun}
 use Rattle.steps.specs.Claims.{Efficient, Final, Demand3}
 use Rattle.steps.proofs.Changes.{total-taking, bits-taking, efficient-taking}
 use Rattle.steps.proofs.Rule.{Move, exchange, give-up, take-one, Did, refitStep-is, addStep-is}

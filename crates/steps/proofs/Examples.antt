@@ -1,7 +1,7 @@
 -- Two tones whose first steps are equal, run by the rules. Each line is one that a wrong rule of document 01's 'Bench traps' breaks.
 -- Assumes nothing.
 use mathlib.Core.Path.{_≡_, refl}
-use mathlib.Core.List.{List, [], _∷_}
+use mathlib.Core.List.{[], _∷_}
 use Prim.Native.Nat.{ℕ}
 use native.Mathlib.Decide.{decLt, decLe, ℕ-discrete}
 use lib.ListN.{getD}

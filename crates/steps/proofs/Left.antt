@@ -5,7 +5,7 @@ use mathlib.Core.Path.{_≡_}
 use mathlib.Core.Logic.{_⊎_, inl, inr}
 use Prim.Native.Nat.{ℕ, _+_, _-_, _≤_, _<_}
 use native.Mathlib.Omega.{arith}
-use Rattle.steps.specs.Tones.{Tones, step, Rising, Table, _!_, totalPower, sumOfLimits, KeepsLimits, Held, Free}
+use Rattle.steps.specs.Tones.{Tones, step, Rising, Table, _!_, sumOfLimits, KeepsLimits, Held, Free}
 use Rattle.steps.specs.Runs.{taking, givingUp}
 use Rattle.steps.specs.Claims.{Efficient}
 use Rattle.steps.proofs.Order.{place, sorted-place, size-place}

@@ -4,11 +4,11 @@ use mathlib.Core.Path.{_≡_, ap}
 use mathlib.Core.Logic.{ite}
 use mathlib.Core.Option.{Option, none, some}
 use Prim.Native.Nat.{ℕ, _+_, _-_, _≤_, _<_}
-use native.Mathlib.Decide.{decLt, decLe}
+use native.Mathlib.Decide.{decLt}
 use native.Mathlib.Omega.{arith}
 use lib.ListN.{getD-replicate}
-use Rattle.steps.specs.Tones.{Tones, step, Rising, Before, before?, Table, _!_, totalPower, noBits, KeepsLimits, KeepsBudget, Free}
-use Rattle.steps.specs.Runs.{earliestFree, latestHeld, taking, givingUp, Answer, moved, finished, Fits, fits?, takeIfFits, giveUpOrTake, refitMove, addStep, refitStep}
+use Rattle.steps.specs.Tones.{Tones, step, Rising, Before, before?, Table, _!_, totalPower, noBits, KeepsLimits, KeepsBudget}
+use Rattle.steps.specs.Runs.{earliestFree, latestHeld, taking, givingUp, Answer, moved, finished, fits?, takeIfFits, giveUpOrTake, refitMove, addStep, refitStep}
 use Rattle.steps.specs.Claims.{Efficient, Final}
 use Rattle.steps.proofs.Sums.{sum-eq}
 use Rattle.steps.proofs.Order.{place, before-place, place-before, place-lt, size-place}

@@ -6,10 +6,10 @@ use mathlib.Core.Option.{Option, none, some}
 use Prim.Native.Nat.{ℕ, zero, suc, _-_, _≤_, _<_}
 use native.Mathlib.Decide.{decLt, ℕ-discrete}
 use native.Mathlib.Omega.{arith}
-use Rattle.steps.specs.Tones.{Tones, step, Rising, Before, before?, Table, _!_, KeepsLimits, Held, Free}
+use Rattle.steps.specs.Tones.{Tones, Rising, Before, before?, Table, _!_, KeepsLimits, Held, Free}
 use Rattle.steps.specs.Runs.{against, choice, earliestFree, latestHeld}
 use Rattle.steps.proofs.Sums.{upto}
-use Rattle.steps.proofs.Order.{before-irreflexive, before-trans, place, before-place, place-before, place-lt, place-rises}
+use Rattle.steps.proofs.Order.{before-irreflexive, before-trans, place, place-before, place-lt, place-rises}
 
 -- what `choice` finds among the first n tones
 abbrev Chosen : (has : ℕ → Type 0) (beats : ℕ → ℕ → Type 0) → ℕ → Option ℕ → Type 0

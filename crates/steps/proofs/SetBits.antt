@@ -6,9 +6,9 @@ use mathlib.Core.Option.{Option, none, some}
 use Prim.Native.Nat.{ℕ, _-_, _≤_, _<_}
 use native.Mathlib.Decide.{decLt, ℕ-discrete}
 use native.Mathlib.Omega.{arith}
-use Rattle.steps.specs.Tones.{Tones, Rising, Table, _!_, noBits, totalBits, sumOfLimits, KeepsLimits, KeepsBudget}
+use Rattle.steps.specs.Tones.{Tones, Rising, Table, _!_, noBits, totalBits, sumOfLimits, KeepsBudget}
 use Rattle.steps.specs.Runs.{Answer, moved, finished, addStep, addStepTo, run, carrying, setBits}
-use Rattle.steps.specs.Claims.{Best, Carries, Cheapest, SetBits}
+use Rattle.steps.specs.Claims.{Carries, SetBits}
 use Rattle.steps.proofs.Sums.{sum-le, sum-zero}
 use Rattle.steps.proofs.Final.{efficient-least, final-best}
 use Rattle.steps.proofs.Run.{Ends, run-ends}

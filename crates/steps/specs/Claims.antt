@@ -2,9 +2,8 @@
 -- Assumes nothing.
 use mathlib.Core.Path.{_≡_}
 use mathlib.Core.Option.{Option, none, some}
-use mathlib.Core.List.{List}
 use Prim.Native.Nat.{ℕ, suc, _+_, _≤_, _<_}
-use Rattle.steps.specs.Tones.{Tones, step, Before, Table, _!_, noBits, Held, Free, powers, totalBits, totalPower, sumOfLimits, KeepsLimits, KeepsBudget}
+use Rattle.steps.specs.Tones.{Tones, step, Before, Table, noBits, Held, Free, powers, totalBits, totalPower, sumOfLimits, KeepsLimits, KeepsBudget}
 use Rattle.steps.specs.Runs.{Answer, moved, finished, addStep, refitStep, mostBits, refitRun}
 
 -- Efficient: every held step comes before every free one.

@@ -1,12 +1,11 @@
 -- The runs. Document 01, 'The loading runs'.
 -- Assumes nothing.
-use mathlib.Core.Path.{_≡_}
 use mathlib.Core.Logic.{ite}
 use mathlib.Core.Option.{Option, none, some}
 use Prim.Native.Nat.{ℕ, zero, suc, _+_, _-_, _≤_}
 use native.Mathlib.Decide.{decLe, decLt, ℕ-discrete}
 use lib.ListN.{set}
-use Rattle.steps.specs.Tones.{Tones, step, Before, before?, Table, _!_, noBits, totalBits, totalPower, sumOfLimits}
+use Rattle.steps.specs.Tones.{Tones, step, before?, Table, _!_, noBits, totalBits, totalPower, sumOfLimits}
 
 -- Of the first n tones, the one that has a step and whose step no other's beats.
 module _ {has : ℕ → Type 0} {beats : ℕ → ℕ → Type 0} (has? : (i : ℕ) → Dec (has i)) (beats? : (i j : ℕ) → Dec (beats i j)) where

@@ -14,9 +14,8 @@ use Rattle.line.specs.declared.Tone.{Tone}
 use Rattle.line.specs.declared.Slot.{Slot}
 use Rattle.line.specs.declared.Slot.the-variants.{Undescribed, Described}
 use Rattle.line.specs.declared.Entry.{Entry}
-use Rattle.line.specs.declared.Line.{Line}
 use Rattle.line.specs.Line.{blank}
-use Rattle.sheet.specs.Tidy.{written, kindBytes, slotBytes, toneBytes, wordBytes, mapBytes, tidy}
+use Rattle.sheet.specs.Tidy.{written, kindBytes, slotBytes, toneBytes, wordBytes, mapBytes}
 
 -- A command.
 

@@ -1,8 +1,8 @@
 // The tidy form of a line, written into a lent buffer: document 01, 'The line sheet'.
 ghost use mathlib.Core.Path.{_≡_};
 ghost use mathlib.Core.List.{_∷_};
-ghost use Prim.Native.Nat.{ℕ, _+_, _*_, _≤_, _<_};
-ghost use lib.ListN.{length, getD};
+ghost use Prim.Native.Nat.{_+_, _≤_, _<_};
+ghost use lib.ListN.{length};
 ghost use lib.Seq.{sets};
 ghost use Rattle.command.specs.Rows.{pair};
 ghost use Rattle.sheet.specs.Tidy.{operandBytes, numbersOf, slotBytes, toneBytes, wordBytes, mapBytes, tidy};

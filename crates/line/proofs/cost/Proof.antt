@@ -1,6 +1,6 @@
 use mathlib.Core.Path.{refl}
 use native.Mathlib.Omega.{arith}
-use Rattle.line.specs.Tone.{Cost, cost}
+use Rattle.line.specs.Tone.{cost}
 use Rattle.line.proofs.Ceiling.{product-high, cost-range}
 use borrow.Author.Needs.{needs}
 use Rattle.line.proofs.cost.Statement.{statement}

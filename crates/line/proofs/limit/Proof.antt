@@ -1,8 +1,8 @@
 -- `line::limit` meets its contract. Between the turns the bits tried so far are within the cap and the mask. Assumes nothing.
-use mathlib.Core.Path.{_≡_, ap}
+use mathlib.Core.Path.{ap}
 use native.Mathlib.Numerals.{add-one}
 use native.Mathlib.Omega.{arith}
-use Prim.Native.Nat.{ℕ, _+_, _-_, _≤_, _<_}
+use Prim.Native.Nat.{_+_, _-_, _≤_}
 use borrow.Author.Needs.{needs}
 use Rattle.line.specs.Tone.{carried, power}
 use Rattle.line.specs.declared.Numbers.{Numbers}

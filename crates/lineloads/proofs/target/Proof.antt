@@ -1,5 +1,5 @@
 -- `lineloads::target` meets its contract. Assumes nothing.
-use mathlib.Core.Path.{_≡_, refl, sym, _∙_}
+use mathlib.Core.Path.{refl, sym, _∙_}
 use borrow.Author.Needs.{needs}
 use Rattle.lineruns.proofs.Standing.{stands-bits}
 use Rattle.lineloads.proofs.Runs.{carried-by, missed-by}

@@ -1,7 +1,5 @@
 -- `lineruns::refit` meets its contract. Assumes nothing.
-use mathlib.Core.Path.{sym}
 use native.Mathlib.Omega.{arith}
-use borrow.Author.Needs.{needs}
 use Rattle.flatten.proofs.Tones.{arrays-powers-in-range, arrays-powers}
 use Rattle.starts.specs.Starts.{Stands}
 use Rattle.starts.proofs.Stands.{start-stands}

@@ -10,7 +10,7 @@ use Rattle.places.proofs.free_place.Statement.{statement}
 use Rattle.places.proofs.free_place.Tie as tie
 
 step-size-requires : tie.Need-step-size-requires
-step-size-requires c κs = (c .before .pre .1, le-trans (mul-le-mul-left (c .before .args .doublings) (omega arith)) (c .before .pre .2))
+step-size-requires c κs = (c .before .pre .1, le-trans (mul-le-mul-left (c .before .args .doublings) (omega arith)) (c .before .pre .2), omega arith)
 
 small : (c : tie.After-step-size) → c .step-size .result < 2 ^ 39
 small c =

@@ -1,57 +1,30 @@
 -- `places::step_size` meets its contract. Assumes nothing.
-use mathlib.Core.Path.{_≡_, refl}
-use Prim.Native.Nat.{suc, _+_, _*_, _%_, _^_}
 use native.Mathlib.Nat.{le-trans}
 use native.Mathlib.Numerals.{add-one}
 use borrow.Author.Needs.{needs}
-use Rattle.places.proofs.Sizes.{shift-exact, shift-less, power-less}
+use Rattle.places.proofs.Sizes.{shift-less, power-less}
 use Rattle.places.proofs.step_size.Statement.{statement}
 use Rattle.places.proofs.step_size.Tie as tie
 
--- neither shift loses a bit
-exact : (c : tie.Start) → (c .args .cost * 2 ^ (c .args .doublings * c .args .bits)) % 2 ^ 64 ≡ c .args .cost * 2 ^ (c .args .doublings * c .args .bits)
-exact c = shift-exact _ (c .pre .0) (le-trans (shift-less (c .args .doublings) (c .args .bits)) (c .pre .1))
+add-power-at : tie.Need-add-power-at
+add-power-at c = search needs
 
-exact-more : (c : tie.Start) → (c .args .cost * 2 ^ (c .args .doublings * (c .args .bits + 1))) % 2 ^ 64 ≡ c .args .cost * 2 ^ (c .args .doublings * suc (c .args .bits))
-exact-more c = rw (add-one (c .args .bits)) (shift-exact _ (c .pre .0) (c .pre .1))
+power-at-requires : tie.Need-power-at-requires
+power-at-requires c κs = (c .pre .0, rw (add-one (c .args .bits)) (c .pre .1))
 
-mul-power : tie.Need-mul-power
-mul-power c = search needs
-
-cast-power : tie.Need-cast-power
-cast-power c = search needs
-
-shl-power : tie.Need-shl-power
-shl-power c = search needs
-
-add-result : tie.Need-add-result
-add-result c = search needs
-
-mul-result : tie.Need-mul-result
-mul-result c = search needs
-
-cast-result : tie.Need-cast-result
-cast-result c = search needs
-
-shl-result : tie.Need-shl-result
-shl-result c = search needs
+power-at-requires-2 : tie.Need-power-at-requires-2
+power-at-requires-2 c κs =
+    let a = c .before in
+    (a .pre .0, le-trans (shift-less (a .args .doublings) (a .args .bits)) (a .pre .1))
 
 sub-result : tie.Need-sub-result
-sub-result c = rw (exact c, exact-more c) (power-less (c .args .cost) (c .args .doublings) (c .args .bits))
+sub-result c =
+    let a = c .before .before .args in
+    rw (c .before .power-at .ensures, c .power-at2 .ensures, add-one (a .bits)) (power-less (a .cost) (a .doublings) (a .bits))
 
 returns : tie.Need-returns
-returns c = rw (exact c, exact-more c) refl
+returns c = rw (c .before .power-at .ensures, c .power-at2 .ensures, add-one (c .before .before .args .bits))
 
 pub step-size-spec : {M : Type 1} → statement M
 step-size-spec =
-    tie.close
-    (tie.spec
-    mul-power
-    cast-power
-    shl-power
-    add-result
-    mul-result
-    cast-result
-    shl-result
-    sub-result
-    returns)
+    tie.close (tie.spec add-power-at power-at-requires power-at-requires-2 sub-result returns)
