@@ -16,7 +16,7 @@ use Rattle.moves.specs.Moves.{ruleOf}
 use Rattle.loading.specs.declared.Answer.the-variants.{Moved, Finished}
 use Rattle.loading.specs.declared.Running.{Running}
 use Rattle.loading.specs.Running.{StandsFor, Runnable, answerAfter, EndsAs}
-use Rattle.loading.proofs.Changes.{Next}
+use Rattle.loading.proofs.Changes.{Next, Kept}
 
 module _ (count : ℕ) (limits costs doublings : List ℕ) where
   -- The running table stands for `at`, and from there the moves that are left make the rest of the whole run.
@@ -55,6 +55,10 @@ along-starts {most = most} n R P = record {
 }
 
 module _ {count : ℕ} {limits costs doublings free held : List ℕ} {rule : Rule} {most budget : ℕ} {start now : Running} {m : ℕ} (A : Along count limits costs doublings rule most budget start now m free held) where
+  -- the kept places, in arrays of 256
+  pub along-kept : length free ≡ 256 → length held ≡ 256 → Kept count limits costs doublings (now .bits) free held
+  along-kept f h = record { bits-sized = A .sized; free-sized = f; held-sized = h; places = A .places }
+
   -- as many moves are made as the run may make
   pub along-full : most ≤ m → (T : Tones) (t : Table) → StandsFor count limits costs doublings start T t
       → EndsAs count limits costs doublings most (record { running = now; moves = m; answer = Moved }) T (theory.run (ruleOf rule T budget) most t)

@@ -13,11 +13,12 @@ use Rattle.steps.specs.Runs.{Answer, moved, taking, givingUp}
 use Rattle.steps.proofs.Search.{Earliest, earliestFree-is, Latest, latestHeld-is}
 use Rattle.steps.proofs.Changes.{taking-within, total-taking, givingUp-within, total-givingUp, same-bits, earliest-givingUp}
 use Rattle.steps.proofs.Order.{before-place}
-use Rattle.places.specs.Places.{Describes, Under, Places, freePlace, heldPlace}
+use Rattle.places.specs.Places.{Describes, Places, freePlace, heldPlace}
 use Rattle.places.proofs.Kept.{places-set}
 use Rattle.moves.specs.declared.Step.{Step}
 use Rattle.moves.specs.declared.Move.the-variants.{Take, GiveUp, Exchange}
 use Rattle.moves.specs.Moves.{Takes, GivesUp, Exchanges, Names}
+use Rattle.moves.proofs.Named.{under}
 use Rattle.loading.specs.declared.Running.{Running}
 use Rattle.loading.specs.Running.{StandsFor, Runnable, taken, givenUp}
 
@@ -94,11 +95,6 @@ pub record CanGiveUp (count : ℕ) (limits : List ℕ) (r : Running) (s : Step) 
   pub bounded : s .size ≤ r .power
 
 module _ {count : ℕ} {limits costs doublings : List ℕ} {r : Running} (R : Runnable count limits costs doublings r) where
-  pub under : Under count limits (r .bits)
-  under = record {
-    under = λ i l. omega (arith, R .stands .describes .same-count, R .stands .describes .same-bits i l, R .stands .describes .same-limit i l, R .stands .within .under i (omega (arith, R .stands .describes .same-count)));
-  }
-
   -- a tone that takes bits has a doubling, so its limit is at most 15
   limit-small : (i : ℕ) → i < count → getD limits i 0 ≤ 15
   limit-small i l = go (decLt 0 (getD limits i 0))
@@ -136,7 +132,7 @@ module _ {count : ℕ} {limits costs doublings : List ℕ} {r : Running} (R : Ru
         tone = l;
         inside = omega (arith, R .in-range .count-high);
         held = omega (arith, L .top, bits-of S (L .tone));
-        within = under .under (s .tone) l;
+        within = under S .under (s .tone) l;
         bounded = omega (arith, N .sized, S .same-power, total-givingUp (R .tones) (S .rising) (S .within) (L .tone) (L .top));
       }
 

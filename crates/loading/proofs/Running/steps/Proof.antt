@@ -9,9 +9,10 @@ use lib.ListN.{length, getD, set, replicate, getD-replicate, length-set}
 use Rattle.steps.specs.Tones.{Tones, Table}
 use Rattle.places.specs.Places.{noStep, NoneFrom}
 use Rattle.moves.specs.Moves.{ruleOf, Names, Exchanges}
+use Rattle.moves.proofs.Named.{under}
 use Rattle.loading.specs.Running.{StandsFor, givenUp}
-use Rattle.loading.proofs.Changes.{under, power-high, CanTake, can-take, CanGiveUp, can-give-up, can-exchange, Kept, kept-set, next-take, next-give-up, next-exchange}
-use Rattle.loading.proofs.Along.{Along, along-starts, along-full, along-finished, along-moved}
+use Rattle.loading.proofs.Changes.{power-high, CanTake, can-take, CanGiveUp, can-give-up, can-exchange, kept-set, next-take, next-give-up, next-exchange}
+use Rattle.loading.proofs.Along.{Along, along-starts, along-full, along-finished, along-moved, along-kept}
 use Rattle.loading.proofs.Running.steps.Statement.{statement}
 use Rattle.loading.proofs.Running.steps.Tie as tie
 
@@ -27,7 +28,7 @@ unfolding noStep
 fill-places-requires c κs =
     let R = c .before .before .before .before .pre in
     let none : NoneFrom (c .before .before .before .before .args .count) (replicate 256 noStep) = record { none-from = λ i h l. getD-replicate 256 i noStep 0 l } in
-    (R .in-range, under R, none, none)
+    (R .in-range, under (R .stands), none, none)
 
 loop-holds : tie.Need-loop-holds Inv-loop μ-loop
 loop-holds c =
@@ -162,9 +163,9 @@ add-moves c = search needs
 loop-less : tie.Need-loop-less Inv-loop μ-loop
 loop-less c = omega (arith, c .before .before .before .before .loop-test .taken)
 
+-- after a move of each kind; `w` is what its arm of the match did, and what it left in the table and the arrays
 loop-again : tie.Need-loop-again Inv-loop μ-loop
 loop-again c =
-    let s = c .before .before .before .before .before .before .before .before .before .before .before .args in
     let A = c .before .before .before .before .before .loop .inv in
     let now = c .before .before .before .before .before .loop in
     let m = c .before .before .before .before .loop-test .taken in
@@ -172,7 +173,7 @@ loop-again c =
     (λ w.
     let f = w .1 .given .0 .0 in
     let k = taken-by (record { before = record { before = c .before; match = w .0 }; next = w .1 }) in
-    let K : Kept (s .count) (s .limits .now) (s .costs .now) (s .doublings .now) (now .self .bits) (now .free) (now .held) = record { bits-sized = A .sized; free-sized = w .7 .ensures .1 .1 .0; held-sized = w .7 .ensures .1 .1 .1; places = A .places } in
+    let K = along-kept A (w .7 .ensures .1 .1 .0) (w .7 .ensures .1 .1 .1) in
     let l : f .tone < length (now .self .bits) = rw (A .sized) (k .inside) in
     rw (w .8, w .9, w .10, w .7 .ensures .0, w .7 .ensures .1 .0, add-one)
     (along-moved A (length-set (now .self .bits) _ _) (kept-set K (f .tone) _ (k .tone) (k .inside) .places) m (λ T t S. next-take S (rw (w .1 .given .1) at (named (c .before) T t S)) l)))
@@ -180,7 +181,7 @@ loop-again c =
     (λ w.
     let h = w .1 .given .0 .0 in
     let k = given-up-by (record { before = record { before = c .before; match = w .0 }; next2 = w .1 }) in
-    let K : Kept (s .count) (s .limits .now) (s .costs .now) (s .doublings .now) (now .self .bits) (now .free) (now .held) = record { bits-sized = A .sized; free-sized = w .7 .ensures .1 .1 .0; held-sized = w .7 .ensures .1 .1 .1; places = A .places } in
+    let K = along-kept A (w .7 .ensures .1 .1 .0) (w .7 .ensures .1 .1 .1) in
     let l : h .tone < length (now .self .bits) = rw (A .sized) (k .inside) in
     rw (w .8, w .9, w .10, w .7 .ensures .0, w .7 .ensures .1 .0)
     (along-moved A (length-set (now .self .bits) _ _) (kept-set K (h .tone) _ (k .tone) (k .inside) .places) m (λ T t S. next-give-up S (rw (w .1 .given .1) at (named (c .before) T t S)) l)))
@@ -191,7 +192,7 @@ loop-again c =
     let down = exchanged-by at in
     let up = then-taken-by (record { before = record { before = record { before = record { before = record { before = record { before = at; known-told3 = w .2 }; less = w .3 }; struct-known3 = w .4 }; free5 = w .5 }; held5 = w .6 }; put-places3 = w .7 }) in
     let less = getD (now .self .bits) (h .tone) 0 - 1 in
-    let K : Kept (s .count) (s .limits .now) (s .costs .now) (s .doublings .now) (now .self .bits) (now .free) (now .held) = record { bits-sized = A .sized; free-sized = w .7 .ensures .1 .1 .0; held-sized = w .7 .ensures .1 .1 .1; places = A .places } in
+    let K = along-kept A (w .7 .ensures .1 .1 .0) (w .7 .ensures .1 .1 .1) in
     let K' = kept-set K (h .tone) less (down .tone) (down .inside) in
     let l : h .tone < length (now .self .bits) = rw (A .sized) (down .inside) in
     let n : f .tone < length (set (now .self .bits) (h .tone) less) = rw (K' .bits-sized) (up .inside) in
