@@ -28,7 +28,7 @@ pub fn load_most(s: &[u8], table: &mut [u8]) -> Loaded
     ensures numbers { λ r. ⌜ loadNumbers r ≡ loadOutcome (loadMost (now (s .entry)) (length (now (table .entry)))) ⌝ }
     ensures bytes { λ r. ⌜ now (table .exit) ≡ afterLoading (loadMost (now (s .entry)) (length (now (table .entry)))) (now (table .entry)) ⌝ }
 {
-    let sheet = sheet::read(s);
+    let sheet = sheet::read_sheet(s);
     let answer = sheet.answer;
     match answer {
         Answer::Refused(refusal) => Loaded::Refused(refusal),
@@ -42,7 +42,7 @@ pub fn load_target(s: &[u8], target: u32, table: &mut [u8]) -> Loaded
     ensures numbers { λ r. ⌜ loadNumbers r ≡ loadOutcome (loadTarget (now (s .entry)) target (length (now (table .entry)))) ⌝ }
     ensures bytes { λ r. ⌜ now (table .exit) ≡ afterLoading (loadTarget (now (s .entry)) target (length (now (table .entry)))) (now (table .entry)) ⌝ }
 {
-    let sheet = sheet::read(s);
+    let sheet = sheet::read_sheet(s);
     let answer = sheet.answer;
     match answer {
         Answer::Refused(refusal) => Loaded::Refused(refusal),
@@ -58,7 +58,7 @@ pub fn refit(s: &[u8], start: &[u8], table: &mut [u8]) -> Refitted
     ensures bytes { λ r. ⌜ now (table .exit) ≡ afterLoading (refit (now (s .entry)) (now (start .entry)) (length (now (table .entry)))) (now (table .entry)) ⌝ }
     ensures demand_3 { λ r. ⌜ Demand3On (now (s .entry)) (now (start .entry)) (length (now (table .entry))) ⌝ }
 {
-    let sheet = sheet::read(s);
+    let sheet = sheet::read_sheet(s);
     let answer = sheet.answer;
     match answer {
         Answer::Refused(refusal) => Refitted::Refused(refusal),
@@ -72,7 +72,7 @@ pub fn refit_step(s: &[u8], start: &[u8], table: &mut [u8]) -> Refitted
     ensures numbers { λ r. ⌜ refitNumbers r ≡ refitOutcome (oneStep (now (s .entry)) (now (start .entry)) (length (now (table .entry)))) ⌝ }
     ensures bytes { λ r. ⌜ now (table .exit) ≡ afterLoading (oneStep (now (s .entry)) (now (start .entry)) (length (now (table .entry)))) (now (table .entry)) ⌝ }
 {
-    let sheet = sheet::read(s);
+    let sheet = sheet::read_sheet(s);
     let answer = sheet.answer;
     match answer {
         Answer::Refused(refusal) => Refitted::Refused(refusal),

@@ -1,8 +1,8 @@
 -- Every line that a sheet means is sound, and its tidy form is no longer than the sheet.
 -- Assumes nothing.
 use mathlib.Core.Bool.{Bool, true, false}
-use mathlib.Core.List.{List, [], _∷_, _++_}
-use mathlib.Core.Option.{Option, none, some}
+use mathlib.Core.List.{List, [], _∷_}
+use mathlib.Core.Option.{Option, some}
 use mathlib.Core.Path.{_≡_, refl, _∙_}
 use Prim.Native.Nat.{ℕ, zero, suc, _+_, _*_, _^_, _≤_, _<_}
 use native.Mathlib.Decide.{ℕ-discrete}
@@ -23,11 +23,9 @@ use Rattle.line.specs.declared.Entry.{Entry}
 use Rattle.line.specs.declared.Line.{Line}
 use Rattle.line.specs.Tone.{InRange, Gap}
 use Rattle.line.specs.Line.{blank, EntryInRange}
-use Rattle.command.specs.declared.Refusal.{Refusal}
 use Rattle.command.specs.declared.Refusal.the-variants.{SheetTooLong}
-use Rattle.command.specs.declared.Command.{Command}
-use Rattle.command.specs.declared.Command.the-variants.{Budget, Describe, Silence, Refused}
-use Rattle.command.specs.Rows.{pick, Seen, Operand, Row, mostCap, kindOf, size, gap, budget, tone, silence, end, width, allowed, withCode, judged, operandsFrom, rowAt, decodedRow, decoded}
+use Rattle.command.specs.declared.Command.the-variants.{Budget, Describe, Silence}
+use Rattle.command.specs.Rows.{Seen, Row, mostCap, kindOf, size, gap, budget, tone, silence, end, width, allowed, withCode, rowAt, decodedRow, decoded}
 use Rattle.command.proofs.Said.{by-test, Passed, values, by-operands, passes, in-within}
 use Rattle.sheet.specs.Reading.{Reading, accepted, refused, Next, stop, go, emptyLine, describedIn, effect, afterCommand, afterDecoded, commandIn, follow, readFrom, reading}
 use Rattle.sheet.specs.Tidy.{tidy}

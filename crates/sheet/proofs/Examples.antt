@@ -5,7 +5,6 @@ use mathlib.Core.List.{List, [], _∷_}
 use Prim.Native.Nat.{ℕ}
 use Rattle.bigendian.specs.Number.{number, bytes}
 use Rattle.silence.specs.Map.{namesBeyond, some}
-use Rattle.line.specs.declared.Line.{Line}
 use Rattle.command.specs.Rows.{rowAt, decoded}
 use Rattle.sheet.specs.Reading.{Reading, accepted, refused, readFrom, reading}
 use Rattle.sheet.specs.Tidy.{toneBytes, mapBytes, tidy}

@@ -4,7 +4,7 @@ use mathlib.Core.List.{List}
 use mathlib.Core.Path.{_≡_, ap, sym, _∙_}
 use Prim.Native.Nat.{ℕ}
 use Rattle.line.specs.declared.Line.{Line}
-use Rattle.sheet.specs.Reading.{Reading, accepted, reading}
+use Rattle.sheet.specs.Reading.{accepted, reading}
 use Rattle.sheet.specs.Tidy.{tidy}
 use Rattle.sheet.specs.Claims.{TidyKeeps}
 use Rattle.sheet.proofs.Sound.{Bytes}

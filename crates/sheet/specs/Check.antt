@@ -1,9 +1,7 @@
 -- The check of a sheet. Document 01: 'A check of a sheet answers N, the number of described tones and the number of silenced tones.'
 -- Assumes nothing.
-use mathlib.Core.List.{List, [], _∷_}
-use Prim.Native.Nat.{ℕ}
+use mathlib.Core.List.{[], _∷_}
 use Rattle.silence.specs.Map.{silenced, count}
-use Rattle.line.specs.declared.Line.{Line}
 use Rattle.command.specs.Refusals.{Outcome, success, refusal}
 use Rattle.sheet.specs.declared.Checked.{Checked}
 use Rattle.sheet.specs.declared.Checked.the-variants as checked

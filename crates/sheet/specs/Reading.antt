@@ -20,6 +20,8 @@ use Rattle.command.specs.Rows.{pick, decoded}
 use Rattle.sheet.specs.declared.Answer.{Answer}
 use Rattle.sheet.specs.declared.Answer.the-variants as answer
 use Rattle.sheet.specs.declared.Sheet.{Sheet}
+use Rattle.sheet.specs.declared.Meaning.{Meaning}
+use Rattle.sheet.specs.declared.Meaning.the-variants as meaning
 
 -- A sheet means a line, or meets a refusal.
 pub data Reading : Type 0 where
@@ -101,3 +103,8 @@ answerOf (answer.Refused r) l = refused r
 
 abbrev pub readingOf : Sheet → Reading
 readingOf r = answerOf (r .answer) (r .line)
+
+-- what the meaning that the code answers says
+abbrev pub meant : Meaning → Reading
+meant (meaning.Line l) = accepted l
+meant (meaning.Refused r) = refused r

@@ -4,7 +4,7 @@ ghost use Prim.Native.Nat.{_+_, _≤_, _<_};
 ghost use lib.ListN.{getD};
 ghost use Rattle.silence.specs.Map.{count};
 ghost use Rattle.sheet.specs.Check.{checking, checkNumbers, checkOutcome};
-ghost use Rattle.sheet.specs.Reading.{isDescribed, describedIn, readingOf, reading};
+ghost use Rattle.sheet.specs.Reading.{isDescribed, describedIn, readingOf, reading, meant};
 use command::Command;
 use command::Refusal;
 use line::Entry;
@@ -17,10 +17,16 @@ pub enum Answer {
     Refused(Refusal),
 }
 
-// What a sheet means: where it is accepted, the line.
+// A sheet as it is read: the answer, and the line that it means where it is accepted.
 pub struct Sheet {
     pub answer: Answer,
     pub line: Line,
+}
+
+// What a sheet means: a line, or the refusal that it meets.
+pub enum Meaning {
+    Line(Line),
+    Refused(Refusal),
 }
 
 // Whether an entry's tone is described.
@@ -46,8 +52,8 @@ fn byte_after(s: &[u8], at: usize) -> usize
     0
 }
 
-// Reads a sheet: the line that it means, or the first refusal that it meets.
-pub fn read(s: &[u8]) -> Sheet
+// Reads a sheet: whether it is accepted or meets a refusal, with the line read so far.
+pub fn read_sheet(s: &[u8]) -> Sheet
     ensures { λ r. ⌜ readingOf r ≡ reading (now (s .entry)) ⌝ }
 {
     let mut size: u16 = 0;
@@ -118,6 +124,17 @@ pub fn read(s: &[u8]) -> Sheet
     }
 }
 
+// Reads a sheet: the line that it means, or the first refusal that it meets.
+pub fn read(s: &[u8]) -> Meaning
+    ensures { λ r. ⌜ meant r ≡ reading (now (s .entry)) ⌝ }
+{
+    let sheet = read_sheet(s);
+    match sheet.answer {
+        Answer::Accepted => Meaning::Line(sheet.line),
+        Answer::Refused(refusal) => Meaning::Refused(refusal),
+    }
+}
+
 // How many tones are described.
 fn described_count(size: u16, entries: [Entry; 256]) -> u16
     requires { ⌜ size ≤ 256 ⌝ }
@@ -146,7 +163,7 @@ pub fn check(s: &[u8]) -> Checked
     ensures answer { λ r. ⌜ r ≡ checking (reading (now (s .entry))) ⌝ }
     ensures numbers { λ r. ⌜ checkNumbers r ≡ checkOutcome (reading (now (s .entry))) ⌝ }
 {
-    let sheet = read(s);
+    let sheet = read_sheet(s);
     let answer = sheet.answer;
     match answer {
         Answer::Refused(refusal) => Checked::Refused(refusal),

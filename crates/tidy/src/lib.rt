@@ -75,7 +75,7 @@ pub fn tidy(s: &[u8], out: &mut [u8]) -> Tidied
     ensures numbers { λ r. ⌜ tidyNumbers r ≡ tidyOutcome (reading (now (s .entry))) (length (now (out .entry))) ⌝ }
     ensures bytes { λ r. ⌜ now (out .exit) ≡ afterTidying (reading (now (s .entry))) (now (out .entry)) ⌝ }
 {
-    let sheet = sheet::read(s);
+    let sheet = sheet::read_sheet(s);
     let answer = sheet.answer;
     match answer {
         Answer::Refused(refusal) => Tidied::Refused(refusal),

@@ -12,8 +12,8 @@ use Rattle.loader.proofs.Outcomes.{ready, on-refused, on-accepted, refi
 use Rattle.loader.proofs.refit.Statement.{statement}
 use Rattle.loader.proofs.refit.Tie as tie
 
-read-requires : tie.Need-read-requires
-read-requires c κs = search needs
+read-sheet-requires : tie.Need-read-sheet-requires
+read-sheet-requires c κs = search needs
 
 enum-known-answer : tie.Need-enum-known-answer
 enum-known-answer c = search needs
@@ -24,7 +24,7 @@ enum-told c = search needs
 refit-requires : tie.Need-refit-requires
 refit-requires c κs =
     let r = c .before .before .before in
-    ready _ (λ i. r .before .before .before .shared-slice-known .given i .fits) (r .read .result) (r .read .ensures) (c .before .enum-told .given .1)
+    ready _ (λ i. r .before .before .before .shared-slice-known .given i .fits) (r .read-sheet .result) (r .read-sheet .ensures) (c .before .enum-told .given .1)
 
 -- demand 3, whatever the answer
 sames : (c : tie.After-shared-slice-known) → Demand3On (c .before .args .s .now) (c .before .args .start .now) (length (c .before .args .table .now))
@@ -35,7 +35,7 @@ unfolding refit
 returns c =
     let r = c .before .before .before in
     let k = r .before .before .before .before in
-    let x = refit-call (k .args .table .now) (on-refused _ (refused-as (r .read .result) (r .read .ensures) _ (c .before .answer .given .1))) (refit-refused _ refl) in
+    let x = refit-call (k .args .table .now) (on-refused _ (refused-as (r .read-sheet .result) (r .read-sheet .ensures) _ (c .before .answer .given .1))) (refit-refused _ refl) in
     (x .0, (x .1 .0, (x .1 .1, sames (r .before .before .before))))
 
 same-length : tie.Need-same-length
@@ -46,9 +46,9 @@ unfolding refit
 returns-2 c =
     let r = c .before .before .before .before .before .before in
     let k = r .before .before .before .before in
-    let l = r .read .result .line in
-    let I = ready _ (λ i. r .before .before .before .shared-slice-known .given i .fits) (r .read .result) (r .read .ensures) (c .before .before .before .before .enum-told .given .1) in
-    let e = on-accepted _ (accepted-as (r .read .result) (r .read .ensures) (c .before .before .before .before .enum-told .given .1)) in
+    let l = r .read-sheet .result .line in
+    let I = ready _ (λ i. r .before .before .before .shared-slice-known .given i .fits) (r .read-sheet .result) (r .read-sheet .ensures) (c .before .before .before .before .enum-told .given .1) in
+    let e = on-accepted _ (accepted-as (r .read-sheet .result) (r .read-sheet .ensures) (c .before .before .before .before .enum-told .given .1)) in
     let x = refit-call (k .args .table .now) (e ∙ sym (whole-refit l I (k .args .start .now) (length (k .args .table .now)))) (c .before .before .refit .ensures) in
     (x .0, (x .1 .0, (x .1 .1, sames (r .before .before .before))))
 
@@ -56,7 +56,7 @@ pub refit-spec : {M : Type 1} → statement M
 refit-spec =
     tie.close
     (tie.spec
-    read-requires
+    read-sheet-requires
     enum-known-answer
     enum-told
     refit-requires

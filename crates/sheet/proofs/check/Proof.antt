@@ -3,7 +3,6 @@ use mathlib.Core.Path.{_≡_}
 use native.Mathlib.Omega.{arith}
 use Prim.Native.Nat.{_≤_}
 use borrow.Author.Needs.{needs}
-use Rattle.silence.specs.Map.{silenced}
 use Rattle.silence.proofs.Maps.{counted-le}
 use Rattle.sheet.specs.Reading.{accepted, reading}
 use Rattle.sheet.proofs.Accepted.{accepted-sound}
@@ -12,16 +11,16 @@ use Rattle.sheet.proofs.check.Statement.{statement}
 use Rattle.sheet.proofs.check.Tie as tie
 
 -- the sheet is accepted, and means the line read
-is-accepted : (c : tie.After-enum-told) → reading (c .before .before .before .before .args .s .now) ≡ accepted (c .before .before .read .result .line)
-is-accepted c = accepted-as (c .before .before .read .result) (c .before .before .read .ensures) (c .enum-told .given .1)
+is-accepted : (c : tie.After-enum-told) → reading (c .before .before .before .before .args .s .now) ≡ accepted (c .before .before .read-sheet .result .line)
+is-accepted c = accepted-as (c .before .before .read-sheet .result) (c .before .before .read-sheet .ensures) (c .enum-told .given .1)
 
-size-high : (c : tie.After-enum-told) → c .before .before .read .result .line .size ≤ 256
+size-high : (c : tie.After-enum-told) → c .before .before .read-sheet .result .line .size ≤ 256
 size-high c =
     let k = c .before .before .before in
     accepted-sound (k .before .args .s .now) (λ i. k .shared-slice-known .given i .fits) _ (is-accepted c) .in-range .size-high
 
-read-requires : tie.Need-read-requires
-read-requires c κs = search needs
+read-sheet-requires : tie.Need-read-sheet-requires
+read-sheet-requires c κs = search needs
 
 enum-known-answer : tie.Need-enum-known-answer
 enum-known-answer c = search needs
@@ -40,7 +39,7 @@ cast-t12 c = record { fits = omega (arith, counted-le _ _ (c .silenced-count .en
 
 returns : tie.Need-returns
 returns c =
-    let r = c .before .before .before .read in
+    let r = c .before .before .before .read-sheet in
     check-numbers (reading (c .before .before .before .before .before .args .s .now)) (simp (refused-as (r .result) (r .ensures) _ (c .before .answer .given .1)))
 
 returns-2 : tie.Need-returns-2
@@ -52,7 +51,7 @@ pub check-spec : {M : Type 1} → statement M
 check-spec =
     tie.close
     (tie.spec
-    read-requires
+    read-sheet-requires
     enum-known-answer
     enum-told
     described-count-requires

@@ -2,10 +2,8 @@
 use mathlib.Core.Path.{_≡_, _∙_}
 use native.Mathlib.Omega.{arith}
 use Prim.Native.Nat.{_≤_}
-use lib.ListN.{length}
 use borrow.Author.Needs.{needs}
 use Rattle.sheet.specs.Reading.{accepted, reading}
-use Rattle.sheet.specs.Tidy.{tidy}
 use Rattle.sheet.proofs.Accepted.{accepted-sound}
 use Rattle.sheet.proofs.Answers.{accepted-as, refused-as}
 use Rattle.tidy.proofs.Outcomes.{turned-down, too-small, written}
@@ -13,16 +11,16 @@ use Rattle.tidy.proofs.tidy.Statement.{statement}
 use Rattle.tidy.proofs.tidy.Tie as tie
 
 -- the sheet is accepted, and means the line read
-is-accepted : (c : tie.After-enum-told) → reading (c .before .before .before .before .before .args .s .now) ≡ accepted (c .before .before .read .result .line)
-is-accepted c = accepted-as (c .before .before .read .result) (c .before .before .read .ensures) (c .enum-told .given .1)
+is-accepted : (c : tie.After-enum-told) → reading (c .before .before .before .before .before .args .s .now) ≡ accepted (c .before .before .read-sheet .result .line)
+is-accepted c = accepted-as (c .before .before .read-sheet .result) (c .before .before .read-sheet .ensures) (c .enum-told .given .1)
 
-size-high : (c : tie.After-enum-told) → c .before .before .read .result .line .size ≤ 256
+size-high : (c : tie.After-enum-told) → c .before .before .read-sheet .result .line .size ≤ 256
 size-high c =
     let k = c .before .before .before .before in
     accepted-sound (k .before .args .s .now) (λ i. k .shared-slice-known .given i .fits) _ (is-accepted c) .in-range .size-high
 
-read-requires : tie.Need-read-requires
-read-requires c κs = search needs
+read-sheet-requires : tie.Need-read-sheet-requires
+read-sheet-requires c κs = search needs
 
 enum-known-answer : tie.Need-enum-known-answer
 enum-known-answer c = search needs
@@ -44,7 +42,7 @@ put-line-requires c κs =
 
 returns-2 : tie.Need-returns-2
 returns-2 c =
-    let r = c .before .before .before .read in
+    let r = c .before .before .before .read-sheet in
     turned-down _ (c .before .before .before .before .before .before .args .out .now) (refused-as (r .result) (r .ensures) _ (c .before .answer .given .1))
 
 same-length : tie.Need-same-length
@@ -61,7 +59,7 @@ pub tidy-spec : {M : Type 1} → statement M
 tidy-spec =
     tie.close
     (tie.spec
-    read-requires
+    read-sheet-requires
     enum-known-answer
     enum-told
     line-bytes-requires
