@@ -35,7 +35,7 @@ fn held_place(tone: usize, cost: u64, doublings: u8, bits: u8) -> u64
     u64::MAX
 }
 
-// Keeps the two places of a tone at a number of bits.
+// Keeps the two places of a tone at a number of bits. The lengths are promised too, since a caller's proof knows none of a lent array.
 pub fn put_places(
     tone: usize,
     bits: u8,
