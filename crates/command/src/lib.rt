@@ -81,7 +81,7 @@ pub struct Decoded {
     pub next: usize,
 }
 
-// The place of an operand that is outside its range.
+// Refusal 4, at the place of an operand.
 fn out_of_range(place: usize) -> Command
     requires { ⌜ place ≤ 4096 ⌝ }
     ensures { λ r. ⌜ r ≡ Refused (OperandOutOfRange place) ⌝ }

@@ -14,23 +14,22 @@ use Rattle.line.specs.declared.Slot.the-variants.{Undescribed, Described}
 use Rattle.line.specs.declared.Steps.{Steps}
 use Rattle.line.specs.declared.Line.{Line}
 use Rattle.line.specs.Tone.{Gap, cost, doublings, limit}
-use Rattle.line.specs.Line.{blank, limitOf, tones, SlotInRange, LineInRange, noSteps, stepsOfSlot, powerIn, PowersInRange, Powers}
+use Rattle.line.specs.Line.{blank, limitOf, tones, SlotInRange, LineInRange, noSteps, stepsOfSlot, powerIn, stepSize, ArraysInRange, PowersInRange, Powers}
 use Rattle.line.proofs.Ceiling.{cost-range}
 use Rattle.line.proofs.Growth.{doublings-low, shift-at-most}
-use Rattle.line.proofs.Limits.{limit-is, cap-high}
+use Rattle.line.proofs.Limits.{limit-is}
 use Rattle.line.proofs.Loads.{line-power}
 use Rattle.flatten.specs.declared.Arrays.{Arrays}
-use Rattle.flatten.specs.Arrays.{Holds, InRange, stepsAt}
+use Rattle.flatten.specs.Arrays.{Holds, stepsAt}
 
 -- the ranges of what the runs need of one tone
 record Small (s : Steps) : Type 0 where
   cost-low : 0 < s .limit → (0 < s .cost) × (0 < s .doublings)
   cost-high : s .cost < 2 ^ 24
   shift-high : s .doublings * s .limit ≤ 15
-  limit-high : s .limit ≤ 15
 
 none-small : Small noSteps
-none-small = record { cost-low = λ h. omega arith; cost-high = omega arith; shift-high = omega arith; limit-high = omega arith }
+none-small = record { cost-low = λ h. omega arith; cost-high = omega arith; shift-high = omega arith }
 
 small : (g : ℕ) (s : Slot) (q : Bool) → Gap g → SlotInRange s → Small (stepsOfSlot g s q)
 small g s true G I = none-small
@@ -43,7 +42,6 @@ small g (Described t) false G I =
       cost-low = λ h. (range .low, doublings-low (t .kind));
       cost-high = omega (arith, range .high);
       shift-high = shift-at-most t (doublings t) (limit t w) refl under I;
-      limit-high = omega (arith, under, cap-high I);
     }
 
 limit-same : (g : ℕ) (s : Slot) (q : Bool) → limitOf g s q ≡ stepsOfSlot g s q .limit
@@ -54,19 +52,19 @@ limit-same g (Described t) false = refl
 -- the limits and steps that the runs go by, as the arrays give them
 pub record SameSteps (l : Line) (a : Arrays) : Type 0 where
   pub limits : (i : ℕ) → i < l .size → tones l .limit i ≡ getD (a .limits) i 0
-  pub steps : (i b : ℕ) → i < l .size → b < tones l .limit i → step (tones l) i b ≡ powerIn (getD (a .costs) i 0) (getD (a .doublings) i 0) (suc b) - powerIn (getD (a .costs) i 0) (getD (a .doublings) i 0) b
+  pub steps : (i b : ℕ) → i < l .size → b < tones l .limit i → step (tones l) i b ≡ stepSize (getD (a .costs) i 0) (getD (a .doublings) i 0) b
 
 module _ (l : Line) (ready : LineInRange l) (a : Arrays) (h : Holds l a) where
   small-at : (i : ℕ) → i < l .size → Small (stepsAt l i)
   small-at i il =
       small (l .gap) (getD (l .entries) i blank .slot) (silenced (l .maps) i) (ready .gap) (ready .entries i il .slot-in-range)
 
-  pub arrays-in-range : InRange l a
+  pub arrays-in-range : ArraysInRange (l .size) (a .limits) (a .costs) (a .doublings)
   arrays-in-range = record {
+    count-high = ready .size-high;
     cost-low = λ i il. rw (h .limit-at i il, h .cost-at i il, h .doublings-at i il) (small-at i il .cost-low);
     cost-high = λ i il. rw (h .cost-at i il) (small-at i il .cost-high);
     shift-high = λ i il. rw (h .doublings-at i il, h .limit-at i il) (small-at i il .shift-high);
-    limit-high = λ i il. rw (h .limit-at i il) (small-at i il .limit-high);
   }
 
   limit-at : (i : ℕ) → i < l .size → tones l .limit i ≡ getD (a .limits) i 0

@@ -1,7 +1,7 @@
 -- The tones of a line as arrays of numbers, filled tone by tone.
 -- Assumes nothing.
 use mathlib.Core.Path.{_≡_}
-use Prim.Native.Nat.{ℕ, _*_, _^_, _≤_, _<_}
+use Prim.Native.Nat.{ℕ, _<_}
 use lib.ListN.{length, getD}
 use Rattle.silence.specs.Map.{silenced}
 use Rattle.line.specs.declared.Line.{Line}
@@ -19,10 +19,3 @@ pub record Holds (l : Line) (a : Arrays) : Type 0 where
   pub limit-at : (i : ℕ) → i < l .size → getD (a .limits) i 0 ≡ stepsAt l i .limit
   pub cost-at : (i : ℕ) → i < l .size → getD (a .costs) i 0 ≡ stepsAt l i .cost
   pub doublings-at : (i : ℕ) → i < l .size → getD (a .doublings) i 0 ≡ stepsAt l i .doublings
-
--- The ranges of the arrays: a tone that takes bits has a cost and a doubling, and every power within a limit is under 2^39.
-pub record InRange (l : Line) (a : Arrays) : Type 0 where
-  pub cost-low : (i : ℕ) → i < l .size → 0 < getD (a .limits) i 0 → (0 < getD (a .costs) i 0) × (0 < getD (a .doublings) i 0)
-  pub cost-high : (i : ℕ) → i < l .size → getD (a .costs) i 0 < 2 ^ 24
-  pub shift-high : (i : ℕ) → i < l .size → getD (a .doublings) i 0 * getD (a .limits) i 0 ≤ 15
-  pub limit-high : (i : ℕ) → i < l .size → getD (a .limits) i 0 ≤ 15

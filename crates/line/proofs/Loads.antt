@@ -15,9 +15,10 @@ use Rattle.steps.proofs.Demand3.{demand-3}
 use Rattle.steps.proofs.SetBits.{set-bits}
 use Rattle.line.specs.declared.Slot.{Slot}
 use Rattle.line.specs.declared.Slot.the-variants.{Undescribed, Described}
+use Rattle.line.specs.declared.Steps.{Steps}
 use Rattle.line.specs.declared.Line.{Line}
 use Rattle.line.specs.Tone.{Gap, cost}
-use Rattle.line.specs.Line.{blank, limitOf, powerOf, tones, SlotInRange, LineInRange, stepsOfSlot, stepsOf, powerIn, stepAt}
+use Rattle.line.specs.Line.{blank, limitOf, powerOf, tones, SlotInRange, LineInRange, stepsOfSlot, stepsOf, powerIn, stepSize}
 use Rattle.line.proofs.Ceiling.{cost-range}
 use Rattle.line.proofs.Growth.{power-is, power-grows, power-zero, step-rises}
 
@@ -36,12 +37,16 @@ slot-power g s true b h = let e : b ≡ 0 = omega arith in rw e (omega (arith, s
 slot-power g Undescribed false b h = omega arith
 slot-power g (Described t) false b h = power-is t (cost g t) b
 
-slot-add-up : (g : ℕ) (s : Slot) (q : Bool) (b : ℕ) → b < limitOf g s q → powerOf g s (suc b) ≡ powerOf g s b + stepAt (stepsOfSlot g s q) b
+-- the step at b bits by the code's account of a tone
+abbrev stepBy : Steps → (b : ℕ) → ℕ
+stepBy s b = stepSize (s .cost) (s .doublings) b
+
+slot-add-up : (g : ℕ) (s : Slot) (q : Bool) (b : ℕ) → b < limitOf g s q → powerOf g s (suc b) ≡ powerOf g s b + stepBy (stepsOfSlot g s q) b
 slot-add-up g s q b h =
     rw (← slot-power g s q (suc b) h, ← slot-power g s q b (omega arith)) (omega (arith, slot-grows g s b))
 
 slot-rise : (g : ℕ) (s : Slot) (q : Bool) (b : ℕ) → Gap g → SlotInRange s → suc b < limitOf g s q
-    → stepAt (stepsOfSlot g s q) b < stepAt (stepsOfSlot g s q) (suc b)
+    → stepBy (stepsOfSlot g s q) b < stepBy (stepsOfSlot g s q) (suc b)
 slot-rise g s true b G I h = omega arith
 slot-rise g Undescribed false b G I h = omega arith
 slot-rise g (Described t) false b G I h =
@@ -55,7 +60,7 @@ module _ (l : Line) (I : LineInRange l) where
   pub line-rising : Rising (tones l)
   unfolding slot
   line-rising =
-      rising (tones l) (λ i b. stepAt (stepsOfSlot (l .gap) (slot i) (silenced (l .maps) i)) b)
+      rising (tones l) (λ i b. stepBy (stepsOfSlot (l .gap) (slot i) (silenced (l .maps) i)) b)
       (λ i b il bl. slot-add-up (l .gap) (slot i) (silenced (l .maps) i) b bl)
       (λ i b il bl. slot-rise (l .gap) (slot i) (silenced (l .maps) i) b (I .gap) (I .entries i il .slot-in-range) bl)
 

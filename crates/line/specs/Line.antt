@@ -70,12 +70,20 @@ stepsOfSlot g (Described t) false = record { limit = limit t (cost g t); cost = 
 abbrev pub stepsOf : (g : ℕ) → Entry → (silenced : Bool) → Steps
 stepsOf g e silenced = stepsOfSlot g (e .slot) silenced
 
--- the power of b bits by that account: the cost, doubled `doublings` × b times, less the cost; and the step at b bits
+-- the power of b bits by that account: the cost, doubled `doublings` × b times, less the cost
 abbrev pub powerIn : (cost doublings b : ℕ) → ℕ
 powerIn cost doublings b = cost * 2 ^ (doublings * b) - cost
 
-abbrev pub stepAt : Steps → (b : ℕ) → ℕ
-stepAt s b = powerIn (s .cost) (s .doublings) (suc b) - powerIn (s .cost) (s .doublings) b
+-- 'The step of a tone at b bits is the power of b + 1 bits less the power of b.'
+abbrev pub stepSize : (cost doublings b : ℕ) → ℕ
+stepSize cost doublings b = powerIn cost doublings (suc b) - powerIn cost doublings b
+
+-- the ranges of arrays of limits, costs and doublings, which keep every step above 0 and below 2^39
+pub record ArraysInRange (count : ℕ) (limits costs doublings : List ℕ) : Type 0 where
+  pub count-high : count ≤ 256
+  pub cost-low : (i : ℕ) → i < count → 0 < getD limits i 0 → (0 < getD costs i 0) × (0 < getD doublings i 0)
+  pub cost-high : (i : ℕ) → i < count → getD costs i 0 < 2 ^ 24
+  pub shift-high : (i : ℕ) → i < count → getD doublings i 0 * getD limits i 0 ≤ 15
 
 -- the ranges in which arrays of costs and doublings give the powers of a table's bits
 pub record PowersInRange (count : ℕ) (costs doublings bits : List ℕ) : Type 0 where

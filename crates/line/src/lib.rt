@@ -83,7 +83,7 @@ pub fn cost(gap: u16, tone: Tone) -> u64
     (top + (bottom - 1)) / bottom
 }
 
-// The power of a number of bits, at a cost that so many doublings multiply for each bit.
+// The power of a number of bits: the cost, doubled `doublings` × bits times, less the cost.
 pub fn power_at(cost: u64, doublings: u8, bits: u8) -> u64
     requires { ⌜ (cost < 2 ^ 24) × (doublings * bits ≤ 15) ⌝ }
     ensures { λ r. ⌜ r ≡ powerIn cost doublings bits ⌝ }

@@ -39,9 +39,7 @@ module _ (l : Line) (I : LineInRange l) (a : Arrays) (h : Holds l a) where
   runnable S = record {
     tones = tones l;
     table = S .table;
-    in-range =
-        let R = arrays-in-range l I a h in
-        record { count-high = I .size-high; cost-low = R .cost-low; cost-high = R .cost-high; shift-high = R .shift-high };
+    in-range = arrays-in-range l I a h;
     stands = to-arrays (S .stands);
     bounded = λ u w. omega (arith, total-high l I u w);
   }

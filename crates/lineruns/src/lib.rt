@@ -36,7 +36,7 @@ fn run_line(line: Line, arrays: Arrays, running: Running, rule: Rule, most: u32)
     )
 }
 
-// Adds from no bits, at most so many.
+// Adds from no bits, by at most so many moves.
 pub fn add(line: Line, arrays: Arrays, most: u32) -> Stepped
     requires { ⌜ LineInRange line × Holds line arrays ⌝ }
     ensures { λ r. ⌜ EndsIn line most r (run (addStep (tones line) (line .budget)) most (noBits (tones line))) ⌝ }

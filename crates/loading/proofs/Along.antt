@@ -10,7 +10,7 @@ use lib.ListN.{length}
 use Rattle.steps.specs.Tones.{Tones, Table}
 use Rattle.steps.specs.Runs as theory
 use Rattle.steps.proofs.Run.{run-moved, run-finished}
-use Rattle.places.specs.Places.{Places}
+use Rattle.ranks.specs.Ranks.{Ranks}
 use Rattle.moves.specs.declared.Rule.{Rule}
 use Rattle.moves.specs.Moves.{ruleOf}
 use Rattle.loading.specs.declared.Answer.the-variants.{Moved, Finished}
@@ -26,10 +26,10 @@ module _ (count : ℕ) (limits costs doublings : List ℕ) where
     pub table : whole .table ≡ theory.run rule (most - m) at .table
     pub moves : whole .moves ≡ m + theory.run rule (most - m) at .moves
 
-  -- what holds after m moves, with the places kept in the arrays
+  -- what holds after m moves, with the ranks kept in the arrays
   pub record Along (rule : Rule) (most budget : ℕ) (start now : Running) (m : ℕ) (free held : List ℕ) : Type 0 where
     pub sized : length (now .bits) ≡ 256
-    pub places : Places count limits costs doublings (now .bits) free held
+    pub ranks : Ranks count limits costs doublings (now .bits) free held
     pub runnable : Runnable count limits costs doublings now
     pub rest : (T : Tones) (t : Table) → StandsFor count limits costs doublings start T t
         → Rest (ruleOf rule T budget) most (theory.run (ruleOf rule T budget) most t) now m T
@@ -46,18 +46,18 @@ module _ (count : ℕ) (limits costs doublings : List ℕ) where
       }
 
 pub along-starts : {count : ℕ} {limits costs doublings free held : List ℕ} {rule : Rule} {most budget : ℕ} {start : Running} → length (start .bits) ≡ 256 → Runnable count limits costs doublings start
-    → Places count limits costs doublings (start .bits) free held → Along count limits costs doublings rule most budget start start 0 free held
+    → Ranks count limits costs doublings (start .bits) free held → Along count limits costs doublings rule most budget start start 0 free held
 along-starts {most = most} n R P = record {
   sized = n;
-  places = P;
+  ranks = P;
   runnable = R;
   rest = λ T t S. record { at = t; stands = S; table = rw (sub-zero most); moves = rw (sub-zero most) (omega arith) };
 }
 
 module _ {count : ℕ} {limits costs doublings free held : List ℕ} {rule : Rule} {most budget : ℕ} {start now : Running} {m : ℕ} (A : Along count limits costs doublings rule most budget start now m free held) where
-  -- the kept places, in arrays of 256
+  -- the kept ranks, in arrays of 256
   pub along-kept : length free ≡ 256 → length held ≡ 256 → Kept count limits costs doublings (now .bits) free held
-  along-kept f h = record { bits-sized = A .sized; free-sized = f; held-sized = h; places = A .places }
+  along-kept f h = record { bits-sized = A .sized; free-sized = f; held-sized = h; ranks = A .ranks }
 
   -- as many moves are made as the run may make
   pub along-full : most ≤ m → (T : Tones) (t : Table) → StandsFor count limits costs doublings start T t
@@ -76,12 +76,12 @@ module _ {count : ℕ} {limits costs doublings free held : List ℕ} {rule : Rul
       rw (lt-ltb m most l) at (ends count limits costs doublings r (run-finished (ruleOf rule T budget) (most - m) (r .at) (stays T (r .at) (r .stands))))
 
   -- the rule moves, and the running table with it
-  pub along-moved : {next : Running} {after behind : List ℕ} → length (next .bits) ≡ length (now .bits) → Places count limits costs doublings (next .bits) after behind → m < most
+  pub along-moved : {next : Running} {after behind : List ℕ} → length (next .bits) ≡ length (now .bits) → Ranks count limits costs doublings (next .bits) after behind → m < most
       → ((T : Tones) (t : Table) → StandsFor count limits costs doublings now T t → Next count limits costs doublings (ruleOf rule T budget t) next T)
       → Along count limits costs doublings rule most budget start next (m + 1) after behind
   along-moved n P l moves = record {
     sized = n ∙ A .sized;
-    places = P;
+    ranks = P;
     runnable =
         let R = A .runnable in
         let n = moves (R .tones) (R .table) (R .stands) in

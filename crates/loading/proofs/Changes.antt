@@ -13,14 +13,21 @@ use Rattle.steps.specs.Runs.{Answer, moved, taking, givingUp}
 use Rattle.steps.proofs.Search.{Earliest, earliestFree-is, Latest, latestHeld-is}
 use Rattle.steps.proofs.Changes.{taking-within, total-taking, givingUp-within, total-givingUp, same-bits, earliest-givingUp}
 use Rattle.steps.proofs.Order.{before-place}
-use Rattle.places.specs.Places.{Describes, Places, freePlace, heldPlace}
-use Rattle.places.proofs.Kept.{places-set}
+use Rattle.ranks.specs.Ranks.{Describes, Ranks, freeRank, heldRank}
+use Rattle.ranks.proofs.Kept.{ranks-set}
 use Rattle.moves.specs.declared.Step.{Step}
 use Rattle.moves.specs.declared.Move.the-variants.{Take, GiveUp, Exchange}
 use Rattle.moves.specs.Moves.{Takes, GivesUp, Exchanges, Names}
 use Rattle.moves.proofs.Named.{under}
 use Rattle.loading.specs.declared.Running.{Running}
-use Rattle.loading.specs.Running.{StandsFor, Runnable, taken, givenUp}
+use Rattle.loading.specs.Running.{StandsFor, Runnable}
+
+-- the running table with a step of tone i taken, and with one given up, of the size s
+abbrev pub taken : Running → (i s : ℕ) → Running
+taken r i s = record { bits = set (r .bits) i (suc (getD (r .bits) i 0)); power = r .power + s }
+
+abbrev pub givenUp : Running → (i s : ℕ) → Running
+givenUp r i s = record { bits = set (r .bits) i (getD (r .bits) i 0 - 1); power = r .power - s }
 
 module _ {count : ℕ} {limits costs doublings : List ℕ} {r : Running} {T : Tones} {t : Table} (S : StandsFor count limits costs doublings r T t) where
   counted : {i : ℕ} → i < T .count → i < count
@@ -168,20 +175,20 @@ module _ {count : ℕ} {limits costs doublings : List ℕ} {r : Running} {T : To
     stands = take-stands (give-up-stands S (latest S (N .1 .gives-up)) (N .1 .gives-up .sized) l) (still-free S (N .1)) (still-sized S (N .1)) m;
   }
 
--- ---- the places after a move
+-- ---- the ranks after a move
 
--- the kept places, in arrays of 256
+-- the kept ranks, in arrays of 256
 pub record Kept (count : ℕ) (limits costs doublings bits free held : List ℕ) : Type 0 where
   pub bits-sized : length bits ≡ 256
   pub free-sized : length free ≡ 256
   pub held-sized : length held ≡ 256
-  pub places : Places count limits costs doublings bits free held
+  pub ranks : Ranks count limits costs doublings bits free held
 
 pub kept-set : {count : ℕ} {limits costs doublings bits free held : List ℕ} → Kept count limits costs doublings bits free held → (i v : ℕ) → i < count → i < 256
-    → Kept count limits costs doublings (set bits i v) (set free i (freePlace i (getD limits i 0) (getD costs i 0) (getD doublings i 0) v)) (set held i (heldPlace i (getD costs i 0) (getD doublings i 0) v))
+    → Kept count limits costs doublings (set bits i v) (set free i (freeRank i (getD limits i 0) (getD costs i 0) (getD doublings i 0) v)) (set held i (heldRank i (getD costs i 0) (getD doublings i 0) v))
 kept-set {bits = bits} {free = free} {held = held} K i v l small = record {
   bits-sized = length-set bits i v ∙ K .bits-sized;
   free-sized = length-set free i _ ∙ K .free-sized;
   held-sized = length-set held i _ ∙ K .held-sized;
-  places = places-set (K .places) i v l (omega (arith, K .bits-sized)) (omega (arith, K .free-sized)) (omega (arith, K .held-sized));
+  ranks = ranks-set (K .ranks) i v l (omega (arith, K .bits-sized)) (omega (arith, K .free-sized)) (omega (arith, K .held-sized));
 }

@@ -18,7 +18,8 @@ pub enum Answer {
     Finished,
 }
 
-// The running table comes back from its steps with how many of them moved, and what the last one answered.
+// The running table comes back from its steps with how many of them moved, and with 'finished' if one found nothing to move, else
+// with 'moved'.
 pub struct Stepped {
     pub running: Running,
     pub moves: u32,
@@ -26,8 +27,8 @@ pub struct Stepped {
 }
 
 impl Running {
-    // Steps of a rule until one answers 'finished', or until `most` of them have moved. The table changes in place, since a copy for
-    // each step would take longer than the step.
+    // Steps of a rule until one answers 'finished', or until `most` of them have moved. The table changes in place, since on small lines
+    // a copy for each step would take longer than the step.
     pub fn steps(
         mut self,
         rule: Rule,
@@ -44,7 +45,7 @@ impl Running {
         let start = self.bits;
         let mut free = [u64::MAX; 256];
         let mut held = [u64::MAX; 256];
-        places::fill_places(
+        ranks::fill_ranks(
             count,
             limits,
             costs,
@@ -64,31 +65,31 @@ impl Running {
                         answer: Answer::Finished,
                     };
                 }
-                Move::Take(up) => {
-                    let f = up.tone;
-                    let bits = self.bits[f] + 1;
-                    self.bits[f] = bits;
-                    self.power += up.size;
-                    places::put_places(f, bits, limits, costs, doublings, &mut free, &mut held);
+                Move::Take(f) => {
+                    let tone = f.tone;
+                    let bits = self.bits[tone] + 1;
+                    self.bits[tone] = bits;
+                    self.power += f.size;
+                    ranks::put_ranks(tone, bits, limits, costs, doublings, &mut free, &mut held);
                 }
-                Move::GiveUp(down) => {
-                    let h = down.tone;
-                    let bits = self.bits[h] - 1;
-                    self.bits[h] = bits;
-                    self.power -= down.size;
-                    places::put_places(h, bits, limits, costs, doublings, &mut free, &mut held);
+                Move::GiveUp(h) => {
+                    let tone = h.tone;
+                    let bits = self.bits[tone] - 1;
+                    self.bits[tone] = bits;
+                    self.power -= h.size;
+                    ranks::put_ranks(tone, bits, limits, costs, doublings, &mut free, &mut held);
                 }
-                Move::Exchange(down, up) => {
-                    let h = down.tone;
-                    let less = self.bits[h] - 1;
-                    self.bits[h] = less;
-                    self.power -= down.size;
-                    places::put_places(h, less, limits, costs, doublings, &mut free, &mut held);
-                    let f = up.tone;
-                    let more = self.bits[f] + 1;
-                    self.bits[f] = more;
-                    self.power += up.size;
-                    places::put_places(f, more, limits, costs, doublings, &mut free, &mut held);
+                Move::Exchange(h, f) => {
+                    let from = h.tone;
+                    let less = self.bits[from] - 1;
+                    self.bits[from] = less;
+                    self.power -= h.size;
+                    ranks::put_ranks(from, less, limits, costs, doublings, &mut free, &mut held);
+                    let to = f.tone;
+                    let more = self.bits[to] + 1;
+                    self.bits[to] = more;
+                    self.power += f.size;
+                    ranks::put_ranks(to, more, limits, costs, doublings, &mut free, &mut held);
                 }
             }
             moves += 1;

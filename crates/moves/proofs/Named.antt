@@ -1,34 +1,31 @@
--- What the places of the earliest free and the latest held step tell of a table, and which move follows.
+-- What the ranks of the earliest free and the latest held step tell of a table, and which move follows.
 -- Assumes nothing.
 use mathlib.Core.Path.{_≡_, refl, sym, ap, _∙_}
 use mathlib.Core.List.{List}
 use mathlib.Core.Logic.{if-pos, if-neg}
 use mathlib.Core.Option.{Option, none, some}
-use Prim.Native.Nat.{ℕ, _+_, _-_, _%_, _/_, _^_, _≤_, _<_}
+use Prim.Native.Nat.{ℕ, _+_, _-_, _^_, _≤_, _<_}
 use native.Mathlib.Decide.{decLt}
 use native.Mathlib.Omega.{arith}
 use lib.Arith.{digits-div, digits-mod}
 use Rattle.steps.specs.Tones.{Tones, step, Before, before?, Table, _!_, totalPower}
 use Rattle.steps.specs.Runs.{earliestFree, latestHeld, taking, givingUp, fits?, takeIfFits, giveUpOrTake, refitMove, moved, finished}
 use Rattle.steps.proofs.Search.{Earliest, earliestFree-is, Latest, latestHeld-is}
-use Rattle.places.specs.Places.{InRange, Under, place, noStep, placeFree, placeHeld}
-use Rattle.places.proofs.Kept.{step-in-range}
-use Rattle.places.proofs.Order.{place-before, before-place}
+use Rattle.line.specs.Line.{ArraysInRange}
+use Rattle.ranks.specs.Ranks.{Under, rank, noStep, rankFree, rankHeld}
+use Rattle.ranks.proofs.Kept.{step-in-range}
+use Rattle.ranks.proofs.Order.{rank-before, before-rank}
 use Rattle.moves.specs.declared.Step.{Step}
-use Rattle.moves.specs.Moves.{StandsFor, Knows, Takes, GivesUp, Exchanges}
+use Rattle.moves.specs.Moves.{stepAt, StandsFor, Knows, Takes, GivesUp, Exchanges}
 
--- the step at a place
-abbrev pub stepAt : ℕ → Step
-stepAt at = record { tone = at % 256; size = at / 256 }
-
--- a step of this size and tone stands at a place
-record Placed (at size tone : ℕ) : Type 0 where
-  there : at ≡ place size tone
+-- a step of this size and tone stands at a rank
+record Ranked (at size tone : ℕ) : Type 0 where
+  there : at ≡ rank size tone
   tone-high : tone < 256
   size-low : 0 < size
   size-high : size < 2 ^ 39
 
-module _ {at size tone : ℕ} (P : Placed at size tone) where
+module _ {at size tone : ℕ} (P : Ranked at size tone) where
   tone-at : stepAt at .tone ≡ tone
   tone-at = rw (P .there) (digits-mod size (P .tone-high))
 
@@ -51,11 +48,11 @@ module _ {count : ℕ} {limits costs doublings bits : List ℕ} {power : ℕ} {T
     under = λ i l. omega (arith, S .describes .same-bits i l, S .describes .same-limit i l, S .within .under i (omega (arith, S .describes .same-count)));
   }
 
-  module _ (I : InRange count limits costs doublings) where
+  module _ (I : ArraysInRange count limits costs doublings) where
     in-range : (i b : ℕ) → i < T .count → b < T .limit i → (0 < step T i b) × (step T i b < 2 ^ 39)
     in-range i b l h = rw (S .describes .same-step i b (counted l) h) (step-in-range I i b (counted l) (omega (arith, S .describes .same-limit i (counted l))))
 
-    pub knows : {earliest latest : ℕ} → earliest ≡ placeFree T t (earliestFree T t) → latest ≡ placeHeld T t (latestHeld T t) → Knows T t power earliest latest
+    pub knows : {earliest latest : ℕ} → earliest ≡ rankFree T t (earliestFree T t) → latest ≡ rankHeld T t (latestHeld T t) → Knows T t power earliest latest
     knows e l = record {
       small = record {
         count-high = omega (arith, S .describes .same-count, I .count-high);
@@ -69,25 +66,25 @@ module _ {count : ℕ} {limits costs doublings bits : List ℕ} {power : ℕ} {T
       latest-at = l;
     }
 
--- ---- what the places tell of the table
+-- ---- what the ranks tell of the table
 
 module _ {T : Tones} {t : Table} {power earliest latest : ℕ} (K : Knows T t power earliest latest) where
-  free-placed : (f : ℕ) → earliestFree T t ≡ some f → Placed earliest (step T f (t ! f)) f
-  free-placed f e =
+  free-ranked : (f : ℕ) → earliestFree T t ≡ some f → Ranked earliest (step T f (t ! f)) f
+  free-ranked f e =
       let E : Earliest T t f = rw e at (earliestFree-is T (K .rising) t) in
       record {
-        there = K .earliest-at ∙ ap (placeFree T t) e;
+        there = K .earliest-at ∙ ap (rankFree T t) e;
         tone-high = omega (arith, E .free .tone, K .small .count-high);
         size-low = K .small .size-low f (t ! f) (E .free .tone) (E .free .below);
         size-high = K .small .size-high f (t ! f) (E .free .tone) (E .free .below);
       }
 
-  held-placed : (h : ℕ) → latestHeld T t ≡ some h → Placed latest (step T h (t ! h - 1)) h
-  held-placed h e =
+  held-ranked : (h : ℕ) → latestHeld T t ≡ some h → Ranked latest (step T h (t ! h - 1)) h
+  held-ranked h e =
       let L : Latest T t h (t ! h - 1) = rw e at (latestHeld-is T (K .rising) t (K .within)) in
       let l : t ! h - 1 < T .limit h = omega (arith, L .top, K .within .under h (L .tone)) in
       record {
-        there = K .latest-at ∙ ap (placeHeld T t) e;
+        there = K .latest-at ∙ ap (rankHeld T t) e;
         tone-high = omega (arith, L .tone, K .small .count-high);
         size-low = K .small .size-low h (t ! h - 1) (L .tone) l;
         size-high = K .small .size-high h (t ! h - 1) (L .tone) l;
@@ -97,31 +94,31 @@ module _ {T : Tones} {t : Table} {power earliest latest : ℕ} (K : Knows T t po
 
   pub no-free : earliest ≡ noStep → earliestFree T t ≡ none
   unfolding noStep
-  no-free e = nothing (earliestFree T t) (λ f q. omega (arith, e, free-placed f q))
+  no-free e = nothing (earliestFree T t) (λ f q. omega (arith, e, free-ranked f q))
 
   pub free-at : {f : Step} → f ≡ stepAt earliest → ¬ (earliest ≡ noStep) → Takes T t f
   free-at {f} e m = rw e (go (earliestFree T t) refl)
     where
       go : (o : Option ℕ) → earliestFree T t ≡ o → Takes T t (stepAt earliest)
-      go none q = absurd (m (K .earliest-at ∙ ap (placeFree T t) q))
-      go (some i) q = let P = free-placed i q in record { found = q ∙ ap some (sym (tone-at P)); sized = size-at P ∙ rw (tone-at P) }
+      go none q = absurd (m (K .earliest-at ∙ ap (rankFree T t) q))
+      go (some i) q = let P = free-ranked i q in record { found = q ∙ ap some (sym (tone-at P)); sized = size-at P ∙ rw (tone-at P) }
 
   no-held : latest ≡ 0 → latestHeld T t ≡ none
-  no-held e = nothing (latestHeld T t) (λ h q. omega (arith, e, held-placed h q))
+  no-held e = nothing (latestHeld T t) (λ h q. omega (arith, e, held-ranked h q))
 
   pub held-at : {h : Step} → h ≡ stepAt latest → ¬ (latest ≡ 0) → GivesUp T t h
   held-at {h} e m = rw e (go (latestHeld T t) refl)
     where
       go : (o : Option ℕ) → latestHeld T t ≡ o → GivesUp T t (stepAt latest)
-      go none q = absurd (m (K .latest-at ∙ ap (placeHeld T t) q))
-      go (some i) q = let P = held-placed i q in record { found = q ∙ ap some (sym (tone-at P)); sized = size-at P ∙ rw (tone-at P) }
+      go none q = absurd (m (K .latest-at ∙ ap (rankHeld T t) q))
+      go (some i) q = let P = held-ranked i q in record { found = q ∙ ap some (sym (tone-at P)); sized = size-at P ∙ rw (tone-at P) }
 
   -- ---- which move follows
 
   module _ {f : Step} (F : Takes T t f) where
-    pub too-dear : {budget : ℕ} → budget < power + f .size → takeIfFits T budget t (earliestFree T t) ≡ finished
+    pub does-not-fit : {budget : ℕ} → budget < power + f .size → takeIfFits T budget t (earliestFree T t) ≡ finished
     unfolding takeIfFits
-    too-dear {budget} l = rw (F .found) (if-neg (fits? T budget t (f .tone)) (λ x. omega (arith, K .same-power, F .sized)) _ _)
+    does-not-fit {budget} l = rw (F .found) (if-neg (fits? T budget t (f .tone)) (λ x. omega (arith, K .same-power, F .sized)) _ _)
 
     pub fitting : {budget : ℕ} → power + f .size ≤ budget → takeIfFits T budget t (earliestFree T t) ≡ moved (taking t (f .tone))
     unfolding takeIfFits
@@ -133,28 +130,28 @@ module _ {T : Tones} {t : Table} {power earliest latest : ℕ} (K : Knows T t po
   only-takes budget e = rw (no-held e)
 
   module _ {h : Step} (H : GivesUp T t h) where
-    -- the order of places is the order of steps
+    -- the order of ranks is the order of steps
     pub exchanges : (budget : ℕ) {f : Step} → f ≡ stepAt earliest → earliest < latest
         → (refitMove T budget t (latestHeld T t) (earliestFree T t) ≡ moved (taking (givingUp t (h .tone)) (f .tone))) × Exchanges T t h f
     unfolding refitMove noStep
     exchanges budget {f} e l =
-        let L = held-placed (h .tone) (H .found) in
+        let L = held-ranked (h .tone) (H .found) in
         let F = free-at e (λ n. omega (arith, n, L)) in
-        let A = free-placed (f .tone) (F .found) in
-        let B : Before T (f .tone) (t ! f .tone) (h .tone) (t ! h .tone - 1) = place-before T (A .tone-high) (L .tone-high) (omega (arith, A, L)) in
+        let A = free-ranked (f .tone) (F .found) in
+        let B : Before T (f .tone) (t ! f .tone) (h .tone) (t ! h .tone - 1) = rank-before T (A .tone-high) (L .tone-high) (omega (arith, A, L)) in
         (rw (H .found, F .found) (if-pos (before? T (f .tone) (t ! f .tone) (h .tone) (t ! h .tone - 1)) B _ _), record { gives-up = H; takes = F; before = B })
 
     keeps : (budget : ℕ) → latest ≤ earliest → refitMove T budget t (latestHeld T t) (earliestFree T t) ≡ giveUpOrTake T budget t (h .tone) (earliestFree T t)
     unfolding refitMove
     keeps budget l = rw (H .found) (go (earliestFree T t) refl)
       where
-        not-before : {f : ℕ} → Placed earliest (step T f (t ! f)) f → Placed latest (step T (h .tone) (t ! h .tone - 1)) (h .tone)
+        not-before : {f : ℕ} → Ranked earliest (step T f (t ! f)) f → Ranked latest (step T (h .tone) (t ! h .tone - 1)) (h .tone)
             → ¬ Before T f (t ! f) (h .tone) (t ! h .tone - 1)
-        not-before A L b = omega (arith, A, L, before-place T (A .tone-high) (L .tone-high) b)
+        not-before A L b = omega (arith, A, L, before-rank T (A .tone-high) (L .tone-high) b)
 
         go : (o : Option ℕ) → earliestFree T t ≡ o → refitMove T budget t (some (h .tone)) o ≡ giveUpOrTake T budget t (h .tone) o
         go none e = refl
-        go (some f) e = if-neg (before? T f (t ! f) (h .tone) (t ! h .tone - 1)) (not-before (free-placed f e) (held-placed (h .tone) (H .found))) _ _
+        go (some f) e = if-neg (before? T f (t ! f) (h .tone) (t ! h .tone - 1)) (not-before (free-ranked f e) (held-ranked (h .tone) (H .found))) _ _
 
     pub gives-up : {budget : ℕ} → latest ≤ earliest → budget < power → refitMove T budget t (latestHeld T t) (earliestFree T t) ≡ moved (givingUp t (h .tone))
     unfolding giveUpOrTake

@@ -3,10 +3,10 @@
 use mathlib.Core.List.{List}
 use mathlib.Core.Option.{some}
 use mathlib.Core.Path.{_≡_}
-use Prim.Native.Nat.{ℕ, _-_, _^_, _≤_, _<_}
+use Prim.Native.Nat.{ℕ, _-_, _%_, _/_, _^_, _≤_, _<_}
 use Rattle.steps.specs.Tones.{Tones, step, Rising, Before, Table, _!_, totalPower, KeepsLimits}
 use Rattle.steps.specs.Runs as rule
-use Rattle.places.specs.Places.{Describes, placeFree, placeHeld}
+use Rattle.ranks.specs.Ranks.{Describes, rankFree, rankHeld}
 use Rattle.moves.specs.declared.Rule.{Rule}
 use Rattle.moves.specs.declared.Rule.the-variants.{Add, Refit}
 use Rattle.moves.specs.declared.Step.{Step}
@@ -17,6 +17,10 @@ use Rattle.moves.specs.declared.Move.the-variants.{Nothing, Take, GiveUp
 abbrev pub ruleOf : Rule → Tones → (budget : ℕ) → Table → rule.Answer
 ruleOf Add = rule.addStep
 ruleOf Refit = rule.refitStep
+
+-- the step at a rank
+abbrev pub stepAt : ℕ → Step
+stepAt at = record { tone = at % 256; size = at / 256 }
 
 -- The arrays, the bits and a total power stand for table t of tones T, which keeps the limits.
 pub record StandsFor (count : ℕ) (limits costs doublings bits : List ℕ) (power : ℕ) (T : Tones) (t : Table) : Type 0 where
@@ -31,14 +35,14 @@ pub record Small (T : Tones) : Type 0 where
   pub size-low : (i b : ℕ) → i < T .count → b < T .limit i → 0 < step T i b
   pub size-high : (i b : ℕ) → i < T .count → b < T .limit i → step T i b < 2 ^ 39
 
--- What the code knows of table t: its total power, and the places of its earliest free and its latest held step.
+-- What the code knows of table t: its total power, and the ranks of its earliest free and its latest held step.
 pub record Knows (T : Tones) (t : Table) (power earliest latest : ℕ) : Type 0 where
   pub small : Small T
   pub rising : Rising T
   pub within : KeepsLimits T t
   pub same-power : power ≡ totalPower T t
-  pub earliest-at : earliest ≡ placeFree T t (rule.earliestFree T t)
-  pub latest-at : latest ≡ placeHeld T t (rule.latestHeld T t)
+  pub earliest-at : earliest ≡ rankFree T t (rule.earliestFree T t)
+  pub latest-at : latest ≡ rankHeld T t (rule.latestHeld T t)
 
 -- f is the earliest free step, h the latest held one
 pub record Takes (T : Tones) (t : Table) (f : Step) : Type 0 where

@@ -1,11 +1,12 @@
 // The one move that a rule names. Document 01, 'The loading runs'.
 ghost use mathlib.Core.List.{List};
 ghost use mathlib.Core.Path.{_≡_};
-ghost use Prim.Native.Nat.{ℕ, _%_, _/_, _^_, _≤_, _<_};
+ghost use Prim.Native.Nat.{ℕ, _^_, _≤_, _<_};
 ghost use Rattle.steps.specs.Tones.{Tones, Table};
 ghost use Rattle.steps.specs.Runs.{earliestFree, latestHeld, takeIfFits, refitMove};
-ghost use Rattle.places.specs.Places.{InRange, NoneFrom, Places};
-ghost use Rattle.moves.specs.Moves.{ruleOf, StandsFor, Knows, Names};
+ghost use Rattle.line.specs.Line.{ArraysInRange};
+ghost use Rattle.ranks.specs.Ranks.{NoneFrom, Ranks};
+ghost use Rattle.moves.specs.Moves.{ruleOf, stepAt, StandsFor, Knows, Names};
 
 // Adding takes the earliest free step; re-fitting exchanges, gives up or takes.
 pub enum Rule {
@@ -27,13 +28,13 @@ pub enum Move {
     Exchange(Step, Step),
 }
 
-// The step at a place.
-fn step_at(place: u64) -> Step
-    ensures { λ r. ⌜ r ≡ record { tone = place % 256; size = place / 256 } ⌝ }
+// The step at a rank.
+fn step_at(rank: u64) -> Step
+    ensures { λ r. ⌜ r ≡ stepAt rank ⌝ }
 {
     Step {
-        tone: (place % 256) as usize,
-        size: place / 256,
+        tone: (rank % 256) as usize,
+        size: rank / 256,
     }
 }
 
@@ -45,15 +46,15 @@ fn take_if_fits(earliest: u64, power: u64, budget: u64) -> Move
     if earliest == u64::MAX {
         return Move::Nothing;
     }
-    let up = step_at(earliest);
-    if budget < power + up.size {
+    let f = step_at(earliest);
+    if budget < power + f.size {
         return Move::Nothing;
     }
-    Move::Take(up)
+    Move::Take(f)
 }
 
 // Exchanges the latest held step for the earliest free one if that comes before it; otherwise, above the budget, gives up the latest
-// held one; otherwise as above. With no held step the place of the latest is 0.
+// held one; otherwise takes the earliest free one if it fits. With no held step the rank of the latest is 0.
 fn refit_move(latest: u64, earliest: u64, power: u64, budget: u64) -> Move
     requires { ⌜ power < 2 ^ 63 ⌝ }
     ensures { λ r. ⌜ ((T : Tones) (t : Table) → Knows T t power earliest latest → Names T t r (refitMove T budget t (latestHeld T t) (earliestFree T t))) ⌝ }
@@ -70,7 +71,7 @@ fn refit_move(latest: u64, earliest: u64, power: u64, budget: u64) -> Move
     take_if_fits(earliest, power, budget)
 }
 
-// The move that a rule names for a table of this total power, by the places that are kept of its tones.
+// The move that a rule names for a table of this total power, by the ranks that are kept of its tones.
 pub fn next_move(
     rule: Rule,
     power: u64,
@@ -80,7 +81,7 @@ pub fn next_move(
     held: &[u64; 256],
 ) -> Move
     requires { ⌜ (power < 2 ^ 63) × (count ≤ 256) × NoneFrom count (now free) × NoneFrom count (now held) ⌝ }
-    ensures { λ r. ⌜ ((limits costs doublings bits : List ℕ) → InRange count limits costs doublings → Places count limits costs doublings bits (now (free .entry)) (now (held .entry)) → (T : Tones) (t : Table) → StandsFor count limits costs doublings bits power T t → Names T t r (ruleOf rule T budget t)) ⌝ }
+    ensures { λ r. ⌜ ((limits costs doublings bits : List ℕ) → ArraysInRange count limits costs doublings → Ranks count limits costs doublings bits (now (free .entry)) (now (held .entry)) → (T : Tones) (t : Table) → StandsFor count limits costs doublings bits power T t → Names T t r (ruleOf rule T budget t)) ⌝ }
 {
     let earliest = search::earliest_free(count, free);
     match rule {

@@ -96,7 +96,7 @@ readFrom (suc most) s at stage l = follow (afterDecoded (commandIn l s at stage)
 unfoldable pub reading : List ℕ → Reading
 reading s = pick (ltb 4096 (length s)) (refused SheetTooLong) (readFrom (suc (length s)) s 0 0 emptyLine)
 
--- what the code's answer says
+-- the reading that `read_sheet` answers: a refusal has no line
 abbrev pub answerOf : Answer → Line → Reading
 answerOf answer.Accepted l = accepted l
 answerOf (answer.Refused r) l = refused r
@@ -104,7 +104,7 @@ answerOf (answer.Refused r) l = refused r
 abbrev pub readingOf : Sheet → Reading
 readingOf r = answerOf (r .answer) (r .line)
 
--- what the meaning that the code answers says
+-- the reading that `read` answers
 abbrev pub meant : Meaning → Reading
 meant (meaning.Line l) = accepted l
 meant (meaning.Refused r) = refused r

@@ -52,7 +52,7 @@ fn byte_after(s: &[u8], at: usize) -> usize
     0
 }
 
-// Reads a sheet: whether it is accepted or meets a refusal, with the line read so far.
+// Reads a sheet: whether it is accepted, or the first refusal that it meets; and the line. After a refusal nothing is promised of the line.
 pub fn read_sheet(s: &[u8]) -> Sheet
     ensures { λ r. ⌜ readingOf r ≡ reading (now (s .entry)) ⌝ }
 {
@@ -124,7 +124,8 @@ pub fn read_sheet(s: &[u8]) -> Sheet
     }
 }
 
-// Reads a sheet: the line that it means, or the first refusal that it meets.
+// Reads a sheet: the line that it means, or the first refusal that it meets. For a caller that wants one value; the library's own calls
+// go by `read_sheet`.
 pub fn read(s: &[u8]) -> Meaning
     ensures { λ r. ⌜ meant r ≡ reading (now (s .entry)) ⌝ }
 {

@@ -2,7 +2,7 @@
 use mathlib.Core.Path.{refl}
 use borrow.Author.Needs.{needs}
 use Rattle.steps.specs.Runs.{latestHeld, addStep, refitStep}
-use Rattle.places.specs.Places.{placeHeld}
+use Rattle.ranks.specs.Ranks.{rankHeld}
 use Rattle.moves.proofs.Named.{under, knows}
 use Rattle.moves.proofs.next_move.Statement.{statement}
 use Rattle.moves.proofs.next_move.Tie as tie
@@ -30,7 +30,7 @@ unfolding addStep
 returns c =
     λ limits costs doublings bits I P T t S.
     let e = c .before .before .before .earliest-free .ensures limits costs doublings bits _ I P T t (S .describes) in
-    rw (c .before .enum-told .given .1) (c .take-if-fits .ensures T t (placeHeld T t (latestHeld T t)) (knows S I e refl))
+    rw (c .before .enum-told .given .1) (c .take-if-fits .ensures T t (rankHeld T t (latestHeld T t)) (knows S I e refl))
 
 returns-2 : tie.Need-returns-2
 unfolding refitStep

@@ -4,9 +4,9 @@ use Prim.Native.Nat.{_/_}
 use native.Mathlib.Omega.{arith}
 use borrow.Author.Needs.{needs}
 use Rattle.steps.specs.Runs.{takeIfFits}
-use Rattle.places.specs.Places.{noStep}
+use Rattle.ranks.specs.Ranks.{noStep}
 use Rattle.moves.specs.declared.Step.{Step}
-use Rattle.moves.proofs.Named.{no-free, free-at, too-dear, fitting}
+use Rattle.moves.proofs.Named.{no-free, free-at, does-not-fit, fitting}
 use Rattle.moves.proofs.take_if_fits.Statement.{statement}
 use Rattle.moves.proofs.take_if_fits.Tie as tie
 
@@ -24,7 +24,7 @@ add-if2 c =
 
 returns-2 : tie.Need-returns-2
 unfolding noStep
-returns-2 c = λ T t latest K. too-dear K (free-at K (c .before .before .step-at .ensures) (c .before .before .before .if1 .left)) (c .if2 .taken)
+returns-2 c = λ T t latest K. does-not-fit K (free-at K (c .before .before .step-at .ensures) (c .before .before .before .if1 .left)) (c .if2 .taken)
 
 returns-3 : tie.Need-returns-3
 unfolding noStep

@@ -1,7 +1,7 @@
 -- `search::latest_held` meets its contract. Assumes nothing.
 use borrow.Author.Needs.{needs}
-use Rattle.places.specs.Places.{noStep}
-use Rattle.search.proofs.Found.{latest-place}
+use Rattle.ranks.specs.Ranks.{noStep}
+use Rattle.search.proofs.Found.{latest-rank}
 use Rattle.search.proofs.latest_held.Statement.{statement}
 use Rattle.search.proofs.latest_held.Tie as tie
 
@@ -13,7 +13,7 @@ sub-result c = search needs
 
 returns : tie.Need-returns
 unfolding noStep
-returns c = λ limits costs doublings bits free I U S T t D. latest-place I S D U (c .least .ensures)
+returns c = λ limits costs doublings bits free I U S T t D. latest-rank I S D U (c .least .ensures)
 
 pub latest-held-spec : {M : Type 1} → statement M
 latest-held-spec = tie.close (tie.spec least-requires sub-result returns)

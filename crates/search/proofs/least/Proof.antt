@@ -1,26 +1,26 @@
--- `search::least` meets its contract: between its turns it knows the least of the places passed, four for each turn. Assumes nothing.
+-- `search::least` meets its contract: between its turns it knows the least of the ranks passed, four for each turn. Assumes nothing.
 use mathlib.Core.Path.{_≡_}
 use mathlib.Core.List.{List}
 use Prim.Native.Nat.{ℕ, _+_, _-_, _*_, _≤_}
 use native.Mathlib.Omega.{arith}
 use borrow.Author.Needs.{needs}
-use Rattle.places.specs.Places.{noStep}
+use Rattle.ranks.specs.Ranks.{noStep}
 use Rattle.search.proofs.Parts.{Part, none-yet, four-more, part-least}
 use Rattle.search.proofs.least.Statement.{statement}
 use Rattle.search.proofs.least.Tie as tie
 
 -- the tones below i are passed; 256 is a multiple of four, so four more are there while one is
-record Passed (places : List ℕ) (least i : ℕ) : Type 0 where
+record Passed (ranks : List ℕ) (least i : ℕ) : Type 0 where
   turns : ℕ
   fours : i ≡ 4 * turns
   within : i ≤ 256
-  part : Part places 0 i least
+  part : Part ranks 0 i least
 
 abbrev Inv-loop : tie.InvT-loop
-Inv-loop count places least₀ i₀ least i = Passed places least i
+Inv-loop count ranks least₀ i₀ least i = Passed ranks least i
 
 abbrev μ-loop : tie.MeasureT-loop
-μ-loop count places least₀ i₀ least i = 256 - i
+μ-loop count ranks least₀ i₀ least i = 256 - i
 
 loop-holds : tie.Need-loop-holds Inv-loop μ-loop
 unfolding noStep

@@ -7,11 +7,11 @@ use native.Mathlib.Omega.{arith}
 use borrow.Author.Needs.{needs}
 use lib.ListN.{length, getD, set, replicate, getD-replicate, length-set}
 use Rattle.steps.specs.Tones.{Tones, Table}
-use Rattle.places.specs.Places.{noStep, NoneFrom}
+use Rattle.ranks.specs.Ranks.{noStep, NoneFrom}
 use Rattle.moves.specs.Moves.{ruleOf, Names, Exchanges}
 use Rattle.moves.proofs.Named.{under}
-use Rattle.loading.specs.Running.{StandsFor, givenUp}
-use Rattle.loading.proofs.Changes.{power-high, CanTake, can-take, CanGiveUp, can-give-up, can-exchange, kept-set, next-take, next-give-up, next-exchange}
+use Rattle.loading.specs.Running.{StandsFor}
+use Rattle.loading.proofs.Changes.{givenUp, power-high, CanTake, can-take, CanGiveUp, can-give-up, can-exchange, kept-set, next-take, next-give-up, next-exchange}
 use Rattle.loading.proofs.Along.{Along, along-starts, along-full, along-finished, along-moved, along-kept}
 use Rattle.loading.proofs.Running.steps.Statement.{statement}
 use Rattle.loading.proofs.Running.steps.Tie as tie
@@ -23,9 +23,9 @@ Inv-loop rule most budget count limits costs doublings self₀ free₀ held₀ m
 abbrev μ-loop : tie.MeasureT-loop
 μ-loop rule most budget count limits costs doublings self₀ free₀ held₀ moves₀ self free held moves = most - moves
 
-fill-places-requires : tie.Need-fill-places-requires Inv-loop μ-loop
+fill-ranks-requires : tie.Need-fill-ranks-requires Inv-loop μ-loop
 unfolding noStep
-fill-places-requires c κs =
+fill-ranks-requires c κs =
     let R = c .before .before .before .before .pre in
     let none : NoneFrom (c .before .before .before .before .args .count) (replicate 256 noStep) = record { none-from = λ i h l. getD-replicate 256 i noStep 0 l } in
     (R .in-range, under (R .stands), none, none)
@@ -33,12 +33,12 @@ fill-places-requires c κs =
 loop-holds : tie.Need-loop-holds Inv-loop μ-loop
 loop-holds c =
     let n : length (c .before .before .before .before .before .args .t1 .bits) ≡ 256 = search needs in
-    along-starts n (c .before .before .before .before .before .pre) (c .fill-places .ensures)
+    along-starts n (c .before .before .before .before .before .pre) (c .fill-ranks .ensures)
 
 next-move-requires : tie.Need-next-move-requires Inv-loop μ-loop
 next-move-requires c κs =
     let A = c .before .before .before .loop .inv in
-    (omega (arith, power-high (A .runnable)), A .runnable .in-range .count-high, A .places .free-past, A .places .held-past)
+    (omega (arith, power-high (A .runnable)), A .runnable .in-range .count-high, A .ranks .free-past, A .ranks .held-past)
 
 enum-told : tie.Need-enum-told Inv-loop μ-loop
 enum-told c = search needs
@@ -47,7 +47,7 @@ enum-told c = search needs
 named : (c : tie.After-next-move Inv-loop μ-loop) (T : Tones) (t : Table)
     → let s = c .before .before .before .before .before .before .before .before .before .before in StandsFor (s .args .count) (s .args .limits .now) (s .args .costs .now) (s .args .doublings .now) (c .before .before .before .before .loop .self) T t
     → Names T t (c .next-move .result) (ruleOf (s .args .rule) T (s .args .budget) t)
-named c T t S = let A = c .before .before .before .before .loop .inv in c .next-move .ensures _ _ _ _ (A .runnable .in-range) (A .places) T t S
+named c T t S = let A = c .before .before .before .before .loop .inv in c .next-move .ensures _ _ _ _ (A .runnable .in-range) (A .ranks) T t S
 
 returns : tie.Need-returns Inv-loop μ-loop
 returns c = along-finished (c .before .before .before .before .before .before .loop .inv) (c .before .before .before .before .before .loop-test .taken) (λ T t S. rw (c .enum-told .given .1) at (named (c .before .before) T t S))
@@ -73,8 +73,8 @@ element-write-self c = taken-by (c .before .before) .inside
 add-self : tie.Need-add-self Inv-loop μ-loop
 add-self c = record { fits = omega (arith, taken-by (c .before .before .before) .bounded) }
 
-put-places-requires : tie.Need-put-places-requires Inv-loop μ-loop
-put-places-requires c κs =
+put-ranks-requires : tie.Need-put-ranks-requires Inv-loop μ-loop
+put-ranks-requires c κs =
     let k = taken-by (c .before .before .before .before .before) in
     let I = c .before .before .before .before .before .before .before .before .before .before .before .loop .inv .runnable .in-range in
     (k .inside, I .cost-high _ (k .tone), I .shift-high _ (k .tone), omega (arith, k .free))
@@ -99,8 +99,8 @@ element-write-self-2 c = given-up-by (c .before .before) .inside
 sub-self : tie.Need-sub-self Inv-loop μ-loop
 sub-self c = omega (arith, given-up-by (c .before .before .before) .bounded)
 
-put-places-requires-2 : tie.Need-put-places-requires-2 Inv-loop μ-loop
-put-places-requires-2 c κs =
+put-ranks-requires-2 : tie.Need-put-ranks-requires-2 Inv-loop μ-loop
+put-ranks-requires-2 c κs =
     let k = given-up-by (c .before .before .before .before .before) in
     let I = c .before .before .before .before .before .before .before .before .before .before .before .loop .inv .runnable .in-range in
     (k .inside, I .cost-high _ (k .tone), I .shift-high _ (k .tone), omega (arith, k .within))
@@ -128,13 +128,13 @@ element-write-self-3 c = exchanged-by (c .before .before) .inside
 sub-self-2 : tie.Need-sub-self-2 Inv-loop μ-loop
 sub-self-2 c = omega (arith, exchanged-by (c .before .before .before) .bounded)
 
-put-places-requires-3 : tie.Need-put-places-requires-3 Inv-loop μ-loop
-put-places-requires-3 c κs =
+put-ranks-requires-3 : tie.Need-put-ranks-requires-3 Inv-loop μ-loop
+put-ranks-requires-3 c κs =
     let k = exchanged-by (c .before .before .before .before .before) in
     let I = c .before .before .before .before .before .before .before .before .before .before .before .loop .inv .runnable .in-range in
     (k .inside, I .cost-high _ (k .tone), I .shift-high _ (k .tone), omega (arith, k .within))
 
-then-taken-by : (c : tie.After-put-places3 Inv-loop μ-loop)
+then-taken-by : (c : tie.After-put-ranks3 Inv-loop μ-loop)
     → let s = c .before .before .before .before .before .before .before .before .before .before .before .before .before .before .before .before .before .before in let h = c .before .before .before .before .before .before .next3 .given .0 .0 in CanTake (s .args .count) (s .args .limits .now) (givenUp (c .before .before .before .before .before .before .before .before .before .before .before .before .loop .self) (h .tone) (h .size)) (c .before .before .before .before .before .before .next3 .given .0 .1 .0)
 then-taken-by c =
     can-exchange (c .before .before .before .before .before .before .before .before .before .before .before .before .loop .inv .runnable) (exchanges (c .before .before .before .before .before .before)) (rw (c .before .before .before .before .before .before .before .before .before .before .before .before .loop .inv .sized) (exchanged-by (c .before .before .before .before .before .before) .inside))
@@ -151,8 +151,8 @@ element-write-self-4 c = then-taken-by (c .before) .inside
 add-self-2 : tie.Need-add-self-2 Inv-loop μ-loop
 add-self-2 c = record { fits = omega (arith, then-taken-by (c .before .before) .bounded) }
 
-put-places-requires-4 : tie.Need-put-places-requires-4 Inv-loop μ-loop
-put-places-requires-4 c κs =
+put-ranks-requires-4 : tie.Need-put-ranks-requires-4 Inv-loop μ-loop
+put-ranks-requires-4 c κs =
     let k = then-taken-by (c .before .before .before .before) in
     let I = c .before .before .before .before .before .before .before .before .before .before .before .before .before .before .before .before .loop .inv .runnable .in-range in
     (k .inside, I .cost-high _ (k .tone), I .shift-high _ (k .tone), omega (arith, k .free))
@@ -176,7 +176,7 @@ loop-again c =
     let K = along-kept A (w .7 .ensures .1 .1 .0) (w .7 .ensures .1 .1 .1) in
     let l : f .tone < length (now .self .bits) = rw (A .sized) (k .inside) in
     rw (w .8, w .9, w .10, w .7 .ensures .0, w .7 .ensures .1 .0, add-one)
-    (along-moved A (length-set (now .self .bits) _ _) (kept-set K (f .tone) _ (k .tone) (k .inside) .places) m (λ T t S. next-take S (rw (w .1 .given .1) at (named (c .before) T t S)) l)))
+    (along-moved A (length-set (now .self .bits) _ _) (kept-set K (f .tone) _ (k .tone) (k .inside) .ranks) m (λ T t S. next-take S (rw (w .1 .given .1) at (named (c .before) T t S)) l)))
     (⊎-elim
     (λ w.
     let h = w .1 .given .0 .0 in
@@ -184,20 +184,20 @@ loop-again c =
     let K = along-kept A (w .7 .ensures .1 .1 .0) (w .7 .ensures .1 .1 .1) in
     let l : h .tone < length (now .self .bits) = rw (A .sized) (k .inside) in
     rw (w .8, w .9, w .10, w .7 .ensures .0, w .7 .ensures .1 .0)
-    (along-moved A (length-set (now .self .bits) _ _) (kept-set K (h .tone) _ (k .tone) (k .inside) .places) m (λ T t S. next-give-up S (rw (w .1 .given .1) at (named (c .before) T t S)) l)))
+    (along-moved A (length-set (now .self .bits) _ _) (kept-set K (h .tone) _ (k .tone) (k .inside) .ranks) m (λ T t S. next-give-up S (rw (w .1 .given .1) at (named (c .before) T t S)) l)))
     (λ w.
     let at : tie.After-next3 Inv-loop μ-loop = record { before = record { before = c .before; match = w .0 }; next3 = w .1 } in
     let h = w .1 .given .0 .0 in
     let f = w .1 .given .0 .1 .0 in
     let down = exchanged-by at in
-    let up = then-taken-by (record { before = record { before = record { before = record { before = record { before = record { before = at; known-told3 = w .2 }; less = w .3 }; struct-known3 = w .4 }; free5 = w .5 }; held5 = w .6 }; put-places3 = w .7 }) in
+    let up = then-taken-by (record { before = record { before = record { before = record { before = record { before = record { before = at; known-told3 = w .2 }; less = w .3 }; struct-known3 = w .4 }; free5 = w .5 }; held5 = w .6 }; put-ranks3 = w .7 }) in
     let less = getD (now .self .bits) (h .tone) 0 - 1 in
     let K = along-kept A (w .7 .ensures .1 .1 .0) (w .7 .ensures .1 .1 .1) in
     let K' = kept-set K (h .tone) less (down .tone) (down .inside) in
     let l : h .tone < length (now .self .bits) = rw (A .sized) (down .inside) in
     let n : f .tone < length (set (now .self .bits) (h .tone) less) = rw (K' .bits-sized) (up .inside) in
     rw (w .13, w .14, w .15, w .12 .ensures .0, w .12 .ensures .1 .0, w .7 .ensures .0, w .7 .ensures .1 .0, add-one)
-    (along-moved A (length-set (set (now .self .bits) (h .tone) less) _ _ ∙ length-set (now .self .bits) _ _) (kept-set K' (f .tone) _ (up .tone) (up .inside) .places) m (λ T t S. next-exchange S (rw (w .1 .given .1) at (named (c .before) T t S)) l n))))
+    (along-moved A (length-set (set (now .self .bits) (h .tone) less) _ _ ∙ length-set (now .self .bits) _ _) (kept-set K' (f .tone) _ (up .tone) (up .inside) .ranks) m (λ T t S. next-exchange S (rw (w .1 .given .1) at (named (c .before) T t S)) l n))))
     (c .match .came)
 
 returns-2 : tie.Need-returns-2 Inv-loop μ-loop
@@ -209,7 +209,7 @@ steps-spec =
     (tie.spec
     Inv-loop
     μ-loop
-    fill-places-requires
+    fill-ranks-requires
     loop-holds
     next-move-requires
     enum-told
@@ -219,24 +219,24 @@ steps-spec =
     add-bits
     element-write-self
     add-self
-    put-places-requires
+    put-ranks-requires
     enum-known-next-2
     element-copy-out-bits-2
     sub-bits
     element-write-self-2
     sub-self
-    put-places-requires-2
+    put-ranks-requires-2
     enum-known-next-3
     element-copy-out-less
     sub-less
     element-write-self-3
     sub-self-2
-    put-places-requires-3
+    put-ranks-requires-3
     element-copy-out-more
     add-more
     element-write-self-4
     add-self-2
-    put-places-requires-4
+    put-ranks-requires-4
     add-moves
     loop-less
     loop-again

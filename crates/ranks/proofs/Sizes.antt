@@ -4,8 +4,7 @@ use Prim.Native.Nat.{ℕ, suc, _+_, _*_, _^_, _≤_, _<_}
 use native.Mathlib.Nat.{lt-of-le-of-lt, lt-of-lt-of-le, mul-suc, mul-le-mul-left, mul-lt-mul-of-pos-left}
 use native.Mathlib.Omega.{arith}
 use lib.Pow.{pow-pos, pow-lt, pow-mono, shl-lt}
-use Rattle.line.specs.Line.{powerIn}
-use Rattle.places.specs.Places.{stepSize}
+use Rattle.line.specs.Line.{powerIn, stepSize}
 
 pub shift-less : (d b : ℕ) → d * b ≤ d * suc b
 shift-less d b = omega (arith, mul-suc d b)

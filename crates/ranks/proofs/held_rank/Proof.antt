@@ -1,14 +1,14 @@
--- `places::held_place` meets its contract. Assumes nothing.
+-- `ranks::held_rank` meets its contract. Assumes nothing.
 use mathlib.Core.Path.{refl}
 use Prim.Native.Nat.{_-_, _^_, _<_}
 use native.Mathlib.Nat.{le-trans, mul-le-mul-left}
 use native.Mathlib.Omega.{arith}
 use borrow.Author.Needs.{needs}
 use borrow.Author.Tests.{lt-ltb, le-ltb}
-use Rattle.places.specs.Places.{noStep}
-use Rattle.places.proofs.Sizes.{size-high}
-use Rattle.places.proofs.held_place.Statement.{statement}
-use Rattle.places.proofs.held_place.Tie as tie
+use Rattle.ranks.specs.Ranks.{noStep}
+use Rattle.ranks.proofs.Sizes.{size-high}
+use Rattle.ranks.proofs.held_rank.Statement.{statement}
+use Rattle.ranks.proofs.held_rank.Tie as tie
 
 sub-step-size : tie.Need-sub-step-size
 sub-step-size c = search needs
@@ -39,7 +39,7 @@ returns-2 : tie.Need-returns-2
 unfolding noStep
 returns-2 c = let a = c .before .args in rw (le-ltb 0 (a .bits) (omega arith)) refl
 
-pub held-place-spec : {M : Type 1} → statement M
-held-place-spec =
+pub held-rank-spec : {M : Type 1} → statement M
+held-rank-spec =
     tie.close
     (tie.spec sub-step-size step-size-requires mul-result add-result sub-result returns returns-2)

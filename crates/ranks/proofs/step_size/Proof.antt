@@ -1,10 +1,10 @@
--- `places::step_size` meets its contract. Assumes nothing.
+-- `ranks::step_size` meets its contract. Assumes nothing.
 use native.Mathlib.Nat.{le-trans}
 use native.Mathlib.Numerals.{add-one}
 use borrow.Author.Needs.{needs}
-use Rattle.places.proofs.Sizes.{shift-less, power-less}
-use Rattle.places.proofs.step_size.Statement.{statement}
-use Rattle.places.proofs.step_size.Tie as tie
+use Rattle.ranks.proofs.Sizes.{shift-less, power-less}
+use Rattle.ranks.proofs.step_size.Statement.{statement}
+use Rattle.ranks.proofs.step_size.Tie as tie
 
 add-power-at : tie.Need-add-power-at
 add-power-at c = search needs

@@ -1,13 +1,13 @@
--- `places::free_place` meets its contract. Assumes nothing.
+-- `ranks::free_rank` meets its contract. Assumes nothing.
 use mathlib.Core.Path.{refl}
 use Prim.Native.Nat.{_^_, _<_}
 use native.Mathlib.Nat.{le-trans, mul-le-mul-left}
 use native.Mathlib.Omega.{arith}
 use borrow.Author.Tests.{lt-ltb, le-ltb}
-use Rattle.places.specs.Places.{noStep}
-use Rattle.places.proofs.Sizes.{size-high}
-use Rattle.places.proofs.free_place.Statement.{statement}
-use Rattle.places.proofs.free_place.Tie as tie
+use Rattle.ranks.specs.Ranks.{noStep}
+use Rattle.ranks.proofs.Sizes.{size-high}
+use Rattle.ranks.proofs.free_rank.Statement.{statement}
+use Rattle.ranks.proofs.free_rank.Tie as tie
 
 step-size-requires : tie.Need-step-size-requires
 step-size-requires c κs = (c .before .pre .1, le-trans (mul-le-mul-left (c .before .args .doublings) (omega arith)) (c .before .pre .2), omega arith)
@@ -31,5 +31,5 @@ returns-2 : tie.Need-returns-2
 unfolding noStep
 returns-2 c = let a = c .before .args in rw (le-ltb (a .bits) (a .limit) (omega arith)) refl
 
-pub free-place-spec : {M : Type 1} → statement M
-free-place-spec = tie.close (tie.spec step-size-requires mul-result add-result returns returns-2)
+pub free-rank-spec : {M : Type 1} → statement M
+free-rank-spec = tie.close (tie.spec step-size-requires mul-result add-result returns returns-2)

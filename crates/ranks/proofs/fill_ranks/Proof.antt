@@ -1,10 +1,10 @@
--- `places::fill_places` meets its contract: between its turns the places of the tones below i are stored. Assumes nothing.
+-- `ranks::fill_ranks` meets its contract: between its turns the ranks of the tones below i are stored. Assumes nothing.
 use Prim.Native.Nat.{_-_, _<_}
 use native.Mathlib.Omega.{arith}
 use borrow.Author.Needs.{needs}
-use Rattle.places.proofs.Kept.{Filled, filled-none, filled-more, filled-all}
-use Rattle.places.proofs.fill_places.Statement.{statement}
-use Rattle.places.proofs.fill_places.Tie as tie
+use Rattle.ranks.proofs.Kept.{Filled, filled-none, filled-more, filled-all}
+use Rattle.ranks.proofs.fill_ranks.Statement.{statement}
+use Rattle.ranks.proofs.fill_ranks.Tie as tie
 
 abbrev Inv-loop : tie.InvT-loop
 Inv-loop count limits costs doublings bits free₀ held₀ i₀ free held i = Filled count i limits costs doublings bits free held
@@ -15,11 +15,11 @@ abbrev μ-loop : tie.MeasureT-loop
 loop-holds : tie.Need-loop-holds Inv-loop μ-loop
 loop-holds c = filled-none (c .pre .2) (c .pre .3)
 
-element-copy-out-put-places : tie.Need-element-copy-out-put-places Inv-loop μ-loop
-element-copy-out-put-places c = omega (arith, c .before .before .pre .0 .count-high)
+element-copy-out-put-ranks : tie.Need-element-copy-out-put-ranks Inv-loop μ-loop
+element-copy-out-put-ranks c = omega (arith, c .before .before .pre .0 .count-high)
 
-put-places-requires : tie.Need-put-places-requires Inv-loop μ-loop
-put-places-requires c κs =
+put-ranks-requires : tie.Need-put-ranks-requires Inv-loop μ-loop
+put-ranks-requires c κs =
     let a = c .before .before .before .before in
     let i = a .loop .i in
     let p = a .before .pre in
@@ -35,22 +35,22 @@ loop-less c = search needs
 loop-again : tie.Need-loop-again Inv-loop μ-loop
 loop-again c =
     let a = c .before .before .before .before .before in
-    let e = c .put-places .ensures in
+    let e = c .put-ranks .ensures in
     let l : a .loop .i < 256 = omega (arith, a .before .pre .0 .count-high) in
     rw (e .0, e .1 .0) (filled-more (a .loop .inv) (omega arith) (omega (arith, e .1 .1)) (omega (arith, e .1 .1)))
 
 returns : tie.Need-returns Inv-loop μ-loop
 returns c = filled-all (c .before .loop .inv) (omega (arith, c .before .loop .inv .within))
 
-pub fill-places-spec : {M : Type 1} → statement M
-fill-places-spec =
+pub fill-ranks-spec : {M : Type 1} → statement M
+fill-ranks-spec =
     tie.close
     (tie.spec
     Inv-loop
     μ-loop
     loop-holds
-    element-copy-out-put-places
-    put-places-requires
+    element-copy-out-put-ranks
+    put-ranks-requires
     add-i
     loop-less
     loop-again
