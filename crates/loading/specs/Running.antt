@@ -31,7 +31,7 @@ module _ (count : ℕ) (limits costs doublings : List ℕ) where
     pub stands : StandsFor r tones table
     pub bounded : (u : theory.Table) → theory.KeepsLimits tones u → theory.totalPower tones u < 2 ^ 62
 
-  -- The code's run ends in the table of the rule's run, after as many moves.
+  -- The code's run, of at most so many moves, ends in the table of the rule's run, after as many moves, and answers by their number.
   pub record EndsAs (most : ℕ) (r : Stepped) (T : theory.Tones) (ran : rule.Ran) : Type 0 where
     pub stands : StandsFor (r .running) T (ran .table)
     pub counted : r .moves ≡ ran .moves
