@@ -5,9 +5,9 @@ use mathlib.Core.Path.{_≡_, refl, ap, sym, _∙_}
 use Prim.Native.Nat.{ℕ, _+_, _*_, _≤_}
 use native.Mathlib.Omega.{arith}
 use lib.ListN.{length, drop, length-append}
-use lib.Seq.{sets, sets-eq}
-use Rattle.bigendian.specs.Number.{bytes}
-use Rattle.bigendian.proofs.Numbers.{length-bytes}
+use lib.Seq.{sets, sets-eq, length-sets}
+use Rattle.bigendian.specs.Number.{bytes, withNumber}
+use Rattle.bigendian.proofs.Numbers.{length-bytes, number-fits}
 use Rattle.bigendian.proofs.Stores.{sets-append}
 use Rattle.command.specs.declared.Refusal.{Refusal}
 use Rattle.command.specs.declared.Refusal.the-variants.{SheetTooLong, SheetEnds, CommandNotAllowed, OperandOutOfRange, ToneBeyondLine, ToneRepeated, BytesAfterEnd, DestinationTooSmall, StartLengthWrong, StartAboveLimit, TargetNotCarried}
@@ -23,15 +23,17 @@ use Rattle.answers.specs.Answers.{code, answerBytes, answered, withoutRo
 -- what the code does: it stores 8 bytes for each answer, from a place on
 abbrev pub stores : List ℕ → (at : ℕ) → (answers : List ℕ) → List ℕ
 stores old at [] = old
-stores old at (a ∷ rest) = stores (sets old at (bytes 8 a)) (at + 8) rest
+stores old at (a ∷ rest) = stores (withNumber old at 8 a) (at + 8) rest
 
--- so all their bytes are stored from there
-stored : (old : List ℕ) (at : ℕ) (answers : List ℕ) → stores old at answers ≡ sets old at (answerBytes answers)
+-- so where there is room all their bytes are stored from there
+stored : (old : List ℕ) (at : ℕ) (answers : List ℕ) → at + 8 * length answers ≤ length old → stores old at answers ≡ sets old at (answerBytes answers)
 unfolding answerBytes
-stored old at [] = refl
-stored old at (a ∷ rest) =
+stored old at [] h = refl
+stored old at (a ∷ rest) h =
     let e : at + 8 ≡ at + length (bytes 8 a) = omega (arith, length-bytes 8 a) in
-    stored (sets old at (bytes 8 a)) (at + 8) rest ∙ rw e (sym (sets-append old at (bytes 8 a) (answerBytes rest)))
+    rw (number-fits old at 8 a (omega arith))
+    (stored (sets old at (bytes 8 a)) (at + 8) rest (rw (length-sets old at (bytes 8 a)) (omega arith))
+    ∙ rw e (sym (sets-append old at (bytes 8 a) (answerBytes rest))))
 
 length-answers : (answers : List ℕ) → length (answerBytes answers) ≡ 8 * length answers
 unfolding answerBytes
@@ -42,7 +44,7 @@ length-answers (a ∷ rest) = simp length-append (omega (arith, length-bytes 8 a
 stored-first : (answers old : List ℕ) → 8 * length answers ≤ length old → stores old 0 answers ≡ answerBytes answers ++ drop (8 * length answers) old
 stored-first answers old h =
     let n : 0 + length (answerBytes answers) ≡ 8 * length answers = omega (arith, length-answers answers) in
-    stored old 0 answers ∙ sets-eq (answerBytes answers) old 0 (omega arith) ∙ ap (λ (m : ℕ). answerBytes answers ++ drop m old) n
+    stored old 0 answers (omega arith) ∙ sets-eq (answerBytes answers) old 0 (omega arith) ∙ ap (λ (m : ℕ). answerBytes answers ++ drop m old) n
 
 -- ---- refusals and successes
 

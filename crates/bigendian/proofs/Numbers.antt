@@ -6,9 +6,10 @@ use Prim.Native.Nat.{ℕ, zero, suc, _+_, _-_, _*_, _/_, _%_, _^_, _≤_, _<_}
 use native.Mathlib.Nat.{pow-suc, le-trans, pow-le-pow-right, mul-le-mul-right, div-add-mod', le-of-suc-le-suc, eq-or-lt-of-le, not-suc-le-zero}
 use native.Mathlib.Numerals.{unary-clauses}
 use native.Mathlib.Omega.{arith}
+use borrow.Author.Tests.{le-leb, le-ltb}
 use lib.ListN.{length, getD, set, length-append, List·getD-append}
 use lib.Seq.{sets, set-comm, getD-append-add, getD-at}
-use Rattle.bigendian.specs.Number.{number, bytes}
+use Rattle.bigendian.specs.Number.{number, bytes, numberAt, withNumber}
 
 -- One byte more.
 
@@ -26,6 +27,11 @@ next-fits i n b h g k = le-trans (next-lt i n b h g) (pow-le-pow-right {n = 256}
 pub number-next : (s : List ℕ) (at i n : ℕ) → n ≡ number s at i → n * 256 + getD s (at + i) 0 ≡ number s at (suc i)
 unfolding number
 number-next s at i n e = rw e
+
+-- a number of at most eight bytes that are all there is read
+pub number-there : (s : List ℕ) (at w : ℕ) → w ≤ 8 → at + w ≤ length s → numberAt s at w ≡ number s at w
+unfolding numberAt
+number-there s at w h g = rw (le-ltb 8 w h, le-leb (at + w) (length s) g)
 
 -- the same bytes spell the same number
 pub number-same : (s t : List ℕ) (at at′ w : ℕ) → ((i : ℕ) → i < w → getD s (at + i) 0 ≡ getD t (at′ + i) 0) → number s at w ≡ number t at′ w
@@ -78,6 +84,11 @@ sets-last l at [] v = simp unary-clauses
 sets-last l at (a ∷ vs) v =
     let e : at + suc (length vs) ≡ suc at + length vs = omega arith in
     rw (e, set-comm l (suc at + length vs) at v a (λ x. omega arith)) (sets-last (set l at a) (suc at) vs v)
+
+-- a number that fits is written
+pub number-fits : (out : List ℕ) (at w n : ℕ) → at + w ≤ length out → withNumber out at w n ≡ sets out at (bytes w n)
+unfolding withNumber
+number-fits out at w n h = rw (le-leb (at + w) (length out) h)
 
 -- the low byte last, and before it the bytes of what remains
 pub bytes-next : (out : List ℕ) (at i n : ℕ) → 0 < i → sets (set out (at + (i - 1)) (n % 256)) at (bytes (i - 1) (n / 256)) ≡ sets out at (bytes i n)

@@ -1,7 +1,7 @@
 -- Laws of the rows: each command as a chain of tests at the places of its operands, and the row that a command byte finds.
 -- Assumes nothing.
 use mathlib.Core.Path.{_≡_, refl, sym, ap, _∙_}
-use mathlib.Core.Bool.{Bool, true, false}
+use mathlib.Core.Bool.{Bool, true, false, cond}
 use mathlib.Core.Logic.{_⊎_, inl, inr, ⊎-elim}
 use mathlib.Core.List.{List, [], _∷_}
 use mathlib.Core.Option.{Option, none, some}
@@ -16,10 +16,10 @@ use lib.ListN.{length, getD}
 use Rattle.bigendian.specs.Number.{number}
 use Rattle.silence.specs.Map.{namesBeyond}
 use Rattle.command.specs.declared.Refusal.{Refusal}
-use Rattle.command.specs.declared.Refusal.the-variants.{SheetEnds, CommandNotAllowed, OperandOutOfRange, ToneBeyondLine, ToneRepeated}
+use Rattle.command.specs.declared.Refusal.the-variants.{SheetTooLong, SheetEnds, CommandNotAllowed, OperandOutOfRange, ToneBeyondLine, ToneRepeated}
 use Rattle.command.specs.declared.Command.{Command}
 use Rattle.command.specs.declared.Command.the-variants.{Describe, Silence, Refused}
-use Rattle.command.specs.Rows.{pick, within, Row, size, gap, budget, mostCap, kindOf, tone, pair, single, silence, end, toneRow, allowed, withCode, rowOf, width, bytesOf, judged, rowAt, decodedRow, decoded}
+use Rattle.command.specs.Rows.{within, Row, size, gap, budget, mostCap, kindOf, tone, pair, single, silence, end, toneRow, allowed, withCode, rowOf, width, bytesOf, judged, rowAt, decodedRow, decoded, commandAt}
 
 -- ---- operands
 
@@ -29,16 +29,16 @@ unfolding number
 number-one s at = simp add-zero (omega arith)
 
 -- a refusal that a test decides
-judged-pick : (t : Bool) (r : Refusal) (o : Option Refusal) (c : Command) → judged (pick t (some r) o) c ≡ pick t (Refused r) (judged o c)
-judged-pick true r o c = refl
-judged-pick false r o c = refl
+judged-cond : (t : Bool) (r : Refusal) (o : Option Refusal) (c : Command) → judged (cond t (some r) o) c ≡ cond t (Refused r) (judged o c)
+judged-cond true r o c = refl
+judged-cond false r o c = refl
 
 abbrev pub outOfRange : (place : ℕ) → Command
 outOfRange place = Refused (OperandOutOfRange place)
 
 -- an operand with a range, and what the command says where its value v is in the range
 unfoldable pub ranged : (v low high place : ℕ) → Command → Command
-ranged v low high place rest = pick (ltb v low) (outOfRange place) (pick (ltb high v) (outOfRange place) rest)
+ranged v low high place rest = cond (ltb v low) (outOfRange place) (cond (ltb high v) (outOfRange place) rest)
 
 -- What an operand's value decides; the code has it as v.
 module _ (low high place : ℕ) (rest : Command) {v w : ℕ} (e : v ≡ w) where
@@ -61,16 +61,16 @@ pub one-at : (n : ℕ) (described : ℕ → Bool) (s : List ℕ) (at code w low 
     → rowAt n described s at (record { code = code; operands = within w low high ∷ []; says = says })
     ≡ ranged (number s (at + 1) w) low high (at + 1) (says (number s (at + 1) w ∷ []))
 unfolding rowAt ranged
-one-at n described s at code w low high says = simp judged-pick
+one-at n described s at code w low high says = simp judged-cond
 
 -- the silence command
 pub silence-at : (n : ℕ) (described : ℕ → Bool) (s : List ℕ) (at : ℕ)
     → rowAt n described s at silence
     ≡ ranged (getD s (at + 1) 0) 0 7 (at + 1)
-    (pick (namesBeyond n (getD s (at + 1) 0) (number s (at + 2) 4)) (Refused (ToneBeyondLine (at + 2)))
+    (cond (namesBeyond n (getD s (at + 1) 0) (number s (at + 2) 4)) (Refused (ToneBeyondLine (at + 2)))
     (Silence (getD s (at + 1) 0) (number s (at + 2) 4)))
 unfolding rowAt ranged
-silence-at n described s at = simp (judged-pick, number-one, add-assoc)
+silence-at n described s at = simp (judged-cond, number-one, add-assoc)
 
 -- a tone command of either kind, from its mask on, from its cap on, from its gain on, from its noise on, and all of it
 module _ (s : List ℕ) (at : ℕ) (isSingle : Bool) where
@@ -91,10 +91,10 @@ module _ (s : List ℕ) (at : ℕ) (isSingle : Bool) where
 
 pub tone-at : (n : ℕ) (described : ℕ → Bool) (s : List ℕ) (at : ℕ) (isSingle : Bool)
     → rowAt n described s at (toneRow isSingle)
-    ≡ pick (leb n (getD s (at + 1) 0)) (Refused (ToneBeyondLine (at + 1)))
-    (pick (described (getD s (at + 1) 0)) (Refused (ToneRepeated (at + 1))) (fromNoise s at isSingle))
+    ≡ cond (leb n (getD s (at + 1) 0)) (Refused (ToneBeyondLine (at + 1)))
+    (cond (described (getD s (at + 1) 0)) (Refused (ToneRepeated (at + 1))) (fromNoise s at isSingle))
 unfolding rowAt ranged
-tone-at n described s at isSingle = either isSingle ∙ simp (judged-pick, number-one, add-assoc)
+tone-at n described s at isSingle = either isSingle ∙ simp (judged-cond, number-one, add-assoc)
   where
     either : (isSingle : Bool) → rowAt n described s at (toneRow isSingle) ≡ rowAt n described s at (tone 0x04 isSingle)
     either false = refl
@@ -197,6 +197,16 @@ end-row code l = rw (other 1 tt, other 2 tt, other 3 tt, other 4 tt, other 5 tt,
 
 -- ---- decoding
 
+-- Refusal 1 comes first.
+module _ (n : ℕ) (described : ℕ → Bool) (s : List ℕ) (at stage : ℕ) where
+  pub command-too-long : 4096 < length s → commandAt n described s at stage ≡ record { command = Refused SheetTooLong; next = at }
+  unfolding commandAt
+  command-too-long h = rw (lt-ltb 4096 (length s) h)
+
+  pub command-at : length s ≤ 4096 → commandAt n described s at stage ≡ decoded n described s at stage
+  unfolding commandAt
+  command-at h = rw (le-ltb 4096 (length s) h)
+
 -- The command at a place where its byte stands.
 module _ (n : ℕ) (described : ℕ → Bool) (s : List ℕ) (at stage bytes : ℕ)
     (inside : at < length s) (e : bytes ≡ bytesOf (withCode (allowed stage) (getD s at 0))) where
@@ -219,10 +229,10 @@ module _ (n : ℕ) (described : ℕ → Bool) (s : List ℕ) (at stage bytes : �
         simp (lt-leb (length s) at inside, f, next, le-ltb (length s) (at + bytes) l)
 
 -- Decoding asks whether a tone is described only of the byte after the command.
-pub decoded-same : (n : ℕ) (d e : ℕ → Bool) (s : List ℕ) (at stage : ℕ) → d (getD s (at + 1) 0) ≡ e (getD s (at + 1) 0)
-    → decoded n d s at stage ≡ decoded n e s at stage
-unfolding decoded
-decoded-same n d e s at stage h = rw (same (withCode (allowed stage) (getD s at 0)) (found-allowed Same each stage (getD s at 0)))
+pub command-same : (n : ℕ) (d e : ℕ → Bool) (s : List ℕ) (at stage : ℕ) → d (getD s (at + 1) 0) ≡ e (getD s (at + 1) 0)
+    → commandAt n d s at stage ≡ commandAt n e s at stage
+unfolding commandAt decoded
+command-same n d e s at stage h = rw (same (withCode (allowed stage) (getD s at 0)) (found-allowed Same each stage (getD s at 0)))
   where
     Same : Row → Type 0
     Same r = rowAt n d s at r ≡ rowAt n e s at r

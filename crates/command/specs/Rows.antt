@@ -1,6 +1,6 @@
 -- The commands of a sheet, one row for each. Document 01, 'The line sheet' and 'Why a sheet is turned down'.
 -- Assumes nothing.
-use mathlib.Core.Bool.{Bool, true, false}
+use mathlib.Core.Bool.{Bool, true, false, cond}
 use mathlib.Core.List.{List, [], _∷_, _++_}
 use mathlib.Core.Option.{Option, none, some}
 use Prim.Native.Nat.{ℕ, zero, suc, _+_, _^_}
@@ -12,15 +12,10 @@ use Rattle.line.specs.declared.Numbers.{Numbers}
 use Rattle.line.specs.declared.Kind.{Kind}
 use Rattle.line.specs.declared.Kind.the-variants.{Pair, Single}
 use Rattle.command.specs.declared.Refusal.{Refusal}
-use Rattle.command.specs.declared.Refusal.the-variants.{SheetEnds, CommandNotAllowed, OperandOutOfRange, ToneBeyondLine, ToneRepeated}
+use Rattle.command.specs.declared.Refusal.the-variants.{SheetTooLong, SheetEnds, CommandNotAllowed, OperandOutOfRange, ToneBeyondLine, ToneRepeated}
 use Rattle.command.specs.declared.Command.{Command}
 use Rattle.command.specs.declared.Command.the-variants.{Size, Gap, Budget, Describe, Silence, End, Refused}
 use Rattle.command.specs.declared.Decoded.{Decoded}
-
--- a where the test holds, else b
-abbrev pub pick {ℓ} : {A : Type ℓ} → Bool → A → A → A
-pick true a b = a
-pick false a b = b
 
 -- What judging an operand looks at besides its value: N, which tones are described, and the operands before it.
 pub record Seen : Type 0 where
@@ -37,21 +32,21 @@ pub record Operand : Type 0 where
 abbrev pub within : (width low high : ℕ) → Operand
 within width low high = record {
   width = width;
-  judge = λ seen v place. pick (ltb v low) (some (OperandOutOfRange place)) (pick (ltb high v) (some (OperandOutOfRange place)) none);
+  judge = λ seen v place. cond (ltb v low) (some (OperandOutOfRange place)) (cond (ltb high v) (some (OperandOutOfRange place)) none);
 }
 
 -- refusals 5 and then 6: 'A tone number is N or more', 'the tone is already described'
 abbrev pub toneNumber : (width : ℕ) → Operand
 toneNumber width = record {
   width = width;
-  judge = λ seen v place. pick (leb (seen .size) v) (some (ToneBeyondLine place)) (pick (seen .described v) (some (ToneRepeated place)) none);
+  judge = λ seen v place. cond (leb (seen .size) v) (some (ToneBeyondLine place)) (cond (seen .described v) (some (ToneRepeated place)) none);
 }
 
 -- refusal 5: 'a map names such a tone'; the word stands before it
 abbrev pub map : Operand
 map = record {
   width = 4;
-  judge = λ seen v place. pick (namesBeyond (seen .size) (getD (seen .before) 0 0) v) (some (ToneBeyondLine place)) none;
+  judge = λ seen v place. cond (namesBeyond (seen .size) (getD (seen .before) 0 0) v) (some (ToneBeyondLine place)) none;
 }
 
 -- A command: its byte, its operands, and what it says, of their values.
@@ -107,12 +102,12 @@ allowed (suc (suc (suc n))) = pair ∷ single ∷ silence ∷ end ∷ []
 
 abbrev pub withCode : List Row → (code : ℕ) → Option Row
 withCode [] code = none
-withCode (r ∷ rs) code = pick (eqb code (r .code)) (some r) (withCode rs code)
+withCode (r ∷ rs) code = cond (eqb code (r .code)) (some r) (withCode rs code)
 
 -- the row of a command byte, whatever is allowed; every other byte is taken for the end
 abbrev pub rowOf : (code : ℕ) → Row
 rowOf code =
-    pick (eqb code 1) size (pick (eqb code 2) gap (pick (eqb code 3) budget (pick (eqb code 4) pair (pick (eqb code 5) single (pick (eqb code 6) silence end)))))
+    cond (eqb code 1) size (cond (eqb code 2) gap (cond (eqb code 3) budget (cond (eqb code 4) pair (cond (eqb code 5) single (cond (eqb code 6) silence end)))))
 
 abbrev pub toneRow : (single : Bool) → Row
 toneRow false = pair
@@ -148,11 +143,17 @@ rowAt n described s at r = operandsFrom (record { size = n; described = describe
 abbrev pub decodedRow : (n : ℕ) → (described : ℕ → Bool) → List ℕ → (at : ℕ) → Option Row → Decoded
 decodedRow n described s at none = record { command = Refused (CommandNotAllowed at); next = at }
 decodedRow n described s at (some r) =
-    pick (ltb (length s) (at + 1 + width (r .operands))) (record { command = Refused (SheetEnds (length s)); next = at })
+    cond (ltb (length s) (at + 1 + width (r .operands))) (record { command = Refused (SheetEnds (length s)); next = at })
     (record { command = rowAt n described s at r; next = at + 1 + width (r .operands) })
 
 unfoldable pub decoded : (n : ℕ) → (described : ℕ → Bool) → List ℕ → (at stage : ℕ) → Decoded
 unfolding rowAt
 decoded n described s at stage =
-    pick (leb (length s) at) (record { command = Refused (SheetEnds (length s)); next = at })
+    cond (leb (length s) at) (record { command = Refused (SheetEnds (length s)); next = at })
     (decodedRow n described s at (withCode (allowed stage) (getD s at 0)))
+
+-- The command at a place of any bytes. Refusal 1: 'The sheet has more than 4,096 bytes'; then no command is read.
+unfoldable pub commandAt : (n : ℕ) → (described : ℕ → Bool) → List ℕ → (at stage : ℕ) → Decoded
+unfolding decoded
+commandAt n described s at stage =
+    cond (ltb 4096 (length s)) (record { command = Refused SheetTooLong; next = at }) (decoded n described s at stage)

@@ -6,7 +6,7 @@ ghost use lib.ListN.{length};
 ghost use Rattle.command.specs.declared.Refusal.the-variants.{OperandOutOfRange};
 ghost use Rattle.command.specs.declared.Command.the-variants.{Refused};
 ghost use Rattle.command.specs.Refusals.{refusalNumber, refusalPlace};
-ghost use Rattle.command.specs.Rows.{rowAt, rowOf, toneRow, mostCap, kindOf, silence, width, bytesOf, allowed, withCode, decoded};
+ghost use Rattle.command.specs.Rows.{rowAt, rowOf, toneRow, mostCap, kindOf, silence, width, bytesOf, allowed, withCode, commandAt};
 use line::Kind;
 use line::Numbers;
 use line::Tone;
@@ -232,10 +232,15 @@ fn operands(s: &[u8], at: usize, code: u8, size: u16, taken: bool) -> Command
 
 // The command at a place, and the place after it. `taken` says whether the tone that the byte after the command names is described already.
 pub fn decode(s: &[u8], at: usize, stage: u8, size: u16, taken: bool) -> Decoded
-    requires { ⌜ length (now s) ≤ 4096 ⌝ }
-    ensures { λ r. ⌜ r ≡ decoded size (λ i. taken) (now (s .entry)) at stage ⌝ }
+    ensures { λ r. ⌜ r ≡ commandAt size (λ i. taken) (now (s .entry)) at stage ⌝ }
 {
     let length = s.len();
+    if 4096 < length {
+        return Decoded {
+            command: Command::Refused(Refusal::SheetTooLong),
+            next: at,
+        };
+    }
     let ends = Decoded {
         command: Command::Refused(Refusal::SheetEnds(length as u16)),
         next: at,

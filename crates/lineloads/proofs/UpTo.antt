@@ -1,6 +1,6 @@
 -- A re-fit by at most 3,840 moves is the whole re-fit, and by at most one is the single step.
 -- Assumes nothing.
-use mathlib.Core.Bool.{Bool, true, false}
+use mathlib.Core.Bool.{Bool, true, false, cond}
 use mathlib.Core.List.{List}
 use mathlib.Core.Option.{Option, none, some}
 use mathlib.Core.Path.{_≡_, refl, ap}
@@ -13,7 +13,6 @@ use Rattle.steps.specs.Runs.{Ran, refitStep}
 use Rattle.line.specs.declared.Line.{Line}
 use Rattle.line.specs.Line.{LineInRange, tones}
 use Rattle.command.specs.declared.Refusal.the-variants.{StartLengthWrong}
-use Rattle.command.specs.Rows.{pick}
 use Rattle.starts.specs.Starts.{firstAbove}
 use Rattle.starts.proofs.Above.{none-keeps}
 use Rattle.lineloads.specs.Loads.{loaded, turned-down, ifRoom}
@@ -30,7 +29,7 @@ same-refit l start room {a} {b} same =
     by-above e (some i) f = refl
 
     by-length : (t : Bool) → (t ≡ true → onAbove (firstAbove (tones l) start (l .size)) (loaded l a) ≡ onAbove (firstAbove (tones l) start (l .size)) (loaded l b))
-        → pick t (onAbove (firstAbove (tones l) start (l .size)) (loaded l a)) (turned-down StartLengthWrong) ≡ pick t (onAbove (firstAbove (tones l) start (l .size)) (loaded l b)) (turned-down StartLengthWrong)
+        → cond t (onAbove (firstAbove (tones l) start (l .size)) (loaded l a)) (turned-down StartLengthWrong) ≡ cond t (onAbove (firstAbove (tones l) start (l .size)) (loaded l b)) (turned-down StartLengthWrong)
     by-length true f = f refl
     by-length false f = refl
 

@@ -1,5 +1,6 @@
 -- What a loading of a line answers and writes, with refusals 8 and 11. Document 01, 'The loading runs' and 'Why a sheet is turned down'.
 -- Assumes nothing.
+use mathlib.Core.Bool.{cond}
 use mathlib.Core.List.{List, [], _∷_, _++_}
 use mathlib.Core.Option.{Option, none, some}
 use Prim.Native.Nat.{ℕ, _*_}
@@ -12,7 +13,6 @@ use Rattle.line.specs.Line.{tones}
 use Rattle.command.specs.declared.Refusal.{Refusal}
 use Rattle.command.specs.declared.Refusal.the-variants.{DestinationTooSmall, TargetNotCarried}
 use Rattle.command.specs.Refusals.{Outcome, success, refusal}
-use Rattle.command.specs.Rows.{pick}
 use Rattle.tables.specs.Tables.{tableBytes}
 use Rattle.lineloads.specs.declared.Loaded.{Loaded}
 use Rattle.lineloads.specs.declared.Loaded.the-variants.{Totals, Refused}
@@ -24,7 +24,7 @@ pub data Loading : Type 0 where
 
 -- refusal 8: 'under 9 × N bytes'
 abbrev pub ifRoom : (room : ℕ) → Line → Loading → Loading
-ifRoom room l on = pick (ltb room (9 * l .size)) (turned-down DestinationTooSmall) on
+ifRoom room l on = cond (ltb room (9 * l .size)) (turned-down DestinationTooSmall) on
 
 -- Load for most bits, into a buffer of so many bytes.
 unfoldable pub mostOn : Line → (room : ℕ) → Loading

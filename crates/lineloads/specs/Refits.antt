@@ -1,6 +1,7 @@
 -- What a re-fit of a starting table on a line, or one step of it, answers, with refusals 9 and 10. Document 01, 'The loading runs' and
 -- 'Why a sheet is turned down'.
 -- Assumes nothing.
+use mathlib.Core.Bool.{cond}
 use mathlib.Core.List.{List, [], _∷_}
 use mathlib.Core.Option.{Option, none, some}
 use Prim.Native.Nat.{ℕ}
@@ -12,7 +13,6 @@ use Rattle.line.specs.declared.Line.{Line}
 use Rattle.line.specs.Line.{tones}
 use Rattle.command.specs.declared.Refusal.the-variants.{StartLengthWrong, StartAboveLimit}
 use Rattle.command.specs.Refusals.{Outcome, success, refusal}
-use Rattle.command.specs.Rows.{pick}
 use Rattle.starts.specs.Starts.{firstAbove}
 use Rattle.lineloads.specs.declared.Refitted.{Refitted}
 use Rattle.lineloads.specs.declared.Refitted.the-variants.{Totals, Refused}
@@ -25,7 +25,7 @@ onAbove none on = on
 
 abbrev pub onStart : Line → (start : List ℕ) → Loading → Loading
 onStart l start on =
-    pick (eqb (length start) (l .size)) (onAbove (firstAbove (tones l) start (l .size)) on) (turned-down StartLengthWrong)
+    cond (eqb (length start) (l .size)) (onAbove (firstAbove (tones l) start (l .size)) on) (turned-down StartLengthWrong)
 
 -- refusals 8 to 10 of a re-fit that ends in a run's table
 abbrev pub refitTo : Line → (start : List ℕ) → (room : ℕ) → Ran → Loading

@@ -1,5 +1,6 @@
 -- The running table beside the tones and the table of crate steps that it stands for, and where a run ends.
 -- Assumes nothing.
+use mathlib.Core.Bool.{cond}
 use mathlib.Core.List.{List}
 use mathlib.Core.Path.{_≡_}
 use Prim.Native.Nat.{ℕ, _-_, _^_, _<_}
@@ -7,7 +8,6 @@ use lib.Dec.{ltb}
 use Rattle.steps.specs.Tones as theory
 use Rattle.steps.specs.Runs as rule
 use Rattle.line.specs.Line.{ArraysInRange}
-use Rattle.ranks.specs.Ranks.{pick}
 use Rattle.moves.specs.Moves as moves
 use Rattle.loading.specs.declared.Answer.{Answer}
 use Rattle.loading.specs.declared.Answer.the-variants.{Moved, Finished}
@@ -16,7 +16,7 @@ use Rattle.loading.specs.declared.Stepped.{Stepped}
 
 -- 'finished' if a run made fewer moves than it may, else 'moved': so with none allowed it is 'moved'
 abbrev pub answerAfter : (made most : ℕ) → Answer
-answerAfter made most = pick (ltb made most) Finished Moved
+answerAfter made most = cond (ltb made most) Finished Moved
 
 module _ (count : ℕ) (limits costs doublings : List ℕ) where
   -- The running table stands for table t of tones T, and carries its total power.

@@ -1,7 +1,7 @@
 -- Tones as arrays of numbers, for either kind: limits, costs, and by how many doublings a step grows from bit to bit; and the ranks of
 -- their steps.
 -- Assumes nothing.
-use mathlib.Core.Bool.{Bool, true, false}
+use mathlib.Core.Bool.{cond}
 use mathlib.Core.List.{List}
 use mathlib.Core.Option.{Option, none, some}
 use mathlib.Core.Path.{_≡_}
@@ -10,11 +10,6 @@ use lib.Dec.{ltb}
 use lib.ListN.{getD}
 use Rattle.steps.specs.Tones.{Tones, step, Table, _!_}
 use Rattle.line.specs.Line.{stepSize}
-
--- a test of the code, as a choice
-abbrev pub pick {ℓ} : {A : Type ℓ} → Bool → A → A → A
-pick true a b = a
-pick false a b = b
 
 -- the step of tone i at b bits, by the arrays
 abbrev pub stepIn : (costs doublings : List ℕ) → (i b : ℕ) → ℕ
@@ -41,10 +36,10 @@ noStep = 2 ^ 64 - 1
 
 -- the rank of a tone's earliest free step; that of its latest held one, counted down from the largest number
 abbrev pub freeRank : (tone limit cost doublings bits : ℕ) → ℕ
-freeRank tone limit cost doublings bits = pick (ltb bits limit) (rank (stepSize cost doublings bits) tone) noStep
+freeRank tone limit cost doublings bits = cond (ltb bits limit) (rank (stepSize cost doublings bits) tone) noStep
 
 abbrev pub heldRank : (tone cost doublings bits : ℕ) → ℕ
-heldRank tone cost doublings bits = pick (ltb 0 bits) (noStep - rank (stepSize cost doublings (bits - 1)) tone) noStep
+heldRank tone cost doublings bits = cond (ltb 0 bits) (noStep - rank (stepSize cost doublings (bits - 1)) tone) noStep
 
 -- from tone n on there is no step
 pub record NoneFrom (n : ℕ) (ranks : List ℕ) : Type 0 where

@@ -8,16 +8,20 @@
 //
 // SHEET and START are bytes as crate sampletext reads them, and `-` where there are none. An empty
 // line is skipped, and a line that starts with `#` is written back.
+mod loads;
+mod printing;
+
 ghost use Rattle.io.specs.Counts.{Counts};
 use command::refusal_number;
 use command::refusal_place;
-use sampleloads::Call;
+use loads::Call;
+use printing::print;
+use printing::print_bytes;
+use printing::print_number;
+use printing::print_pair;
+use printing::print_touched;
 use sampletext::ROOM;
 use sampletext::filled;
-use sampletext::print;
-use sampletext::print_number;
-use sampletext::print_pair;
-use sampletext::print_touched;
 use sampletext::read_bytes;
 use sampletext::same;
 use sampletext::within;
@@ -55,7 +59,7 @@ fn show_tidy(sheet: &[u8]) {
     print(b"tidy ");
     print_number(t.length as u64);
     print(b" ");
-    sampletext::print_bytes(&out[..n]);
+    print_bytes(&out[..n]);
     print(b"\n");
     show_again(out, n);
     show_short(sheet, n);
@@ -124,7 +128,7 @@ fn show_call(first: u8, text: &[u8]) {
         b'r' => Call::Refit,
         _ => Call::Step,
     };
-    sampleloads::show(call, &sheet[..n], &start[..m]);
+    loads::show(call, &sheet[..n], &start[..m]);
 }
 
 fn show_line(text: &[u8]) {

@@ -1,13 +1,14 @@
-// The text of the test program: bytes read from it, and what is printed of them.
+// The text of the test program: bytes and numbers read from it, and the buffers for them.
 //
 // Two hex digits are a byte, with blanks between or not. `hh*n` repeats the byte hh n times, and
 // `(..)*n` what stands between, which has no such group in it. `++` is a byte that counts from 0, one
 // more each time, and `==` is that byte again. Any other character is passed over.
-ghost use Prim.Native.Nat.{ℕ, _+_, _≤_, _<_};
+ghost use Prim.Native.Nat.{ℕ, _+_, _≤_, _<_, min, max};
 ghost use mathlib.Core.Bool.{true};
 ghost use mathlib.Core.Path.{_≡_};
-ghost use lib.ListN.{length, getD};
+ghost use lib.ListN.{length, getD, drop};
 ghost use Rattle.io.specs.Counts.{Counts};
+ghost use Rattle.sampletext.specs.Text.{before, digitOf, spelled};
 
 // Room for a sheet, above the 4,096 bytes that a sheet may have.
 pub const ROOM: usize = 4200;
@@ -37,7 +38,7 @@ struct Reading {
 
 // The value of a hex digit, and 16 for any other character.
 fn digit(c: u8) -> u8
-    ensures { λ r. ⌜ r ≤ 16 ⌝ }
+    ensures { λ r. ⌜ (r ≡ digitOf c) × (r ≤ 16) ⌝ }
 {
     match c {
         b'0'..=b'9' => c - b'0',
@@ -50,6 +51,7 @@ fn digit(c: u8) -> u8
 fn decimal(text: &[u8], from: usize) -> Number
     requires { ⌜ from ≤ length (now text) ⌝ }
     ensures { λ r. ⌜ (from ≤ r .next) × (r .next ≤ length (now (text .entry))) ⌝ }
+    ensures value { λ r. ⌜ r .value ≡ spelled 0 (drop from (now (text .entry))) ⌝ }
 {
     let mut value: usize = 0;
     let mut i = from;
@@ -72,9 +74,9 @@ fn decimal(text: &[u8], from: usize) -> Number
 
 // The decimal number after a place, and the largest of 32 bits where it is more.
 pub fn number_after(text: &[u8], at: usize) -> u32
-    requires { ⌜ at ≤ length (now text) ⌝ }
+    ensures { λ r. ⌜ r ≡ min (spelled 0 (drop (at + 1) (now (text .entry)))) 4294967295 ⌝ }
 {
-    if at == text.len() {
+    if text.len() <= at {
         return 0;
     }
     let n = decimal(text, at + 1);
@@ -195,10 +197,11 @@ fn read_group(text: &[u8], times: usize, buffer: &mut [u8], done: Reading) -> Re
     reading
 }
 
-// The first place from another on where a character stands, or the text's length.
+// The first place from another on where a character stands, or the text's length; where that other
+// place is past the text, that place.
 pub fn find(text: &[u8], from: usize, wanted: u8) -> usize
-    requires { ⌜ from ≤ length (now text) ⌝ }
-    ensures { λ r. ⌜ (from ≤ r) × (r ≤ length (now (text .entry))) ⌝ }
+    ensures { λ r. ⌜ r ≡ from + before (drop from (now (text .entry))) wanted ⌝ }
+    ensures bounds { λ r. ⌜ (from ≤ r) × (r ≤ max from (length (now (text .entry)))) ⌝ }
 {
     let mut i = from;
     while i < text.len() && text[i] != wanted {
@@ -244,33 +247,10 @@ pub fn read_bytes(text: &[u8], buffer: &mut [u8]) -> usize
     reading.bytes
 }
 
-pub fn print(text: &[u8]) {
-    io::write_all(1, text);
-}
-
-pub fn print_number(n: u64) {
-    io::print_decimal(1, n);
-}
-
-// Bytes as two hex digits each, with no blanks.
-pub fn print_bytes(bytes: &[u8]) {
-    let mut i = 0;
-    while i < bytes.len() {
-        io::print_hex(1, wide(bytes[i]), 2);
-        i += 1;
-    }
-}
-
-pub fn wide(byte: u8) -> u64 {
+pub fn wide(byte: u8) -> u64
+    ensures { λ r. ⌜ r ≡ byte ⌝ }
+{
     byte as u64
-}
-
-// A word and two numbers, with no line end.
-pub fn print_pair(word: &[u8], first: u64, second: u64) {
-    print(word);
-    print_number(first);
-    print(b" ");
-    print_number(second);
 }
 
 // A buffer for the text.
@@ -306,13 +286,4 @@ pub fn same(a: &[u8; ROOM], b: &[u8; ROOM]) -> bool
         i += 1;
     }
     true
-}
-
-// Ends a line by whether a buffer is as it was filled.
-pub fn print_touched(buffer: &[u8; ROOM]) {
-    if same(buffer, &filled()) {
-        print(b" untouched\n");
-    } else {
-        print(b" touched\n");
-    }
 }

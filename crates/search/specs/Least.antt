@@ -1,16 +1,17 @@
 -- What a scan over the kept ranks finds.
 -- Assumes nothing.
+use mathlib.Core.Bool.{cond}
 use mathlib.Core.List.{List}
 use mathlib.Core.Path.{_≡_}
 use mathlib.Core.Logic.{_≢_}
 use Prim.Native.Nat.{ℕ, _≤_, _<_}
 use lib.Dec.{ltb}
 use lib.ListN.{getD}
-use Rattle.ranks.specs.Ranks.{pick, noStep}
+use Rattle.ranks.specs.Ranks.{noStep}
 
 -- the lesser of two numbers
 abbrev pub lesserOf : ℕ → ℕ → ℕ
-lesserOf a b = pick (ltb b a) b a
+lesserOf a b = cond (ltb b a) b a
 
 -- one of the first n ranks
 pub record Among (n : ℕ) (ranks : List ℕ) (r : ℕ) : Type 0 where

@@ -1,6 +1,6 @@
 -- How long the tidy form of a line is, and how much longer one more command makes it.
 -- Assumes nothing.
-use mathlib.Core.Bool.{Bool, true, false}
+use mathlib.Core.Bool.{Bool, true, false, cond}
 use mathlib.Core.List.{List, [], _∷_}
 use mathlib.Core.Path.{_≡_, refl, ap}
 use Prim.Native.Nat.{ℕ, zero, suc, _+_, _≤_}
@@ -20,7 +20,7 @@ use Rattle.line.specs.declared.Entry.{Entry}
 use Rattle.line.specs.declared.Line.{Line}
 use Rattle.line.specs.Line.{blank}
 use Rattle.command.specs.declared.Command.the-variants.{Describe, Silence}
-use Rattle.command.specs.Rows.{pick, silence}
+use Rattle.command.specs.Rows.{silence}
 use Rattle.sheet.specs.Reading.{effect}
 use Rattle.sheet.specs.Tidy.{written, kindBytes, slotBytes, toneBytes, wordBytes, mapBytes, tidy}
 
@@ -96,7 +96,7 @@ mapLength i m = length (wordBytes i m)
 map-length : (i m : ℕ) → mapLength i m ≤ 6
 map-length i m = by-zero (eqb m 0)
   where
-    by-zero : (b : Bool) → length (pick b [] (written silence (i ∷ m ∷ []))) ≤ 6
+    by-zero : (b : Bool) → length (cond b [] (written silence (i ∷ m ∷ []))) ≤ 6
     by-zero true = omega arith
     by-zero false = simp (length-append, length-bytes) (omega arith)
 

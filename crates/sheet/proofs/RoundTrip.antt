@@ -1,7 +1,7 @@
 -- A line in its tidy form reads back as that line.
 -- Assumes nothing.
 use mathlib.Core.Path.{_≡_, refl, sym, ap, _∙_}
-use mathlib.Core.Bool.{Bool, true, false}
+use mathlib.Core.Bool.{Bool, true, false, cond}
 use mathlib.Core.List.{List, [], _∷_, _++_, append-assoc}
 use mathlib.Core.Logic.{inl, inr}
 use Prim.Native.Nat.{ℕ, zero, suc, _+_, _*_, _^_, _≤_, _<_}
@@ -25,7 +25,7 @@ use Rattle.line.specs.declared.Line.{Line}
 use Rattle.line.specs.Tone.{carried, mostCap, InRange}
 use Rattle.line.specs.Line.{blank, SlotInRange, LineInRange}
 use Rattle.command.specs.declared.Command.the-variants.{Describe, Silence}
-use Rattle.command.specs.Rows.{pick, Seen, Operand, within, toneNumber, map, size, gap, budget, pair, single, silence, end}
+use Rattle.command.specs.Rows.{Seen, Operand, within, toneNumber, map, size, gap, budget, pair, single, silence, end}
 use Rattle.sheet.specs.Reading.{accepted, reading, emptyLine, isDescribed, afterCommand, go}
 use Rattle.sheet.specs.Tidy.{written, numbersOf, kindBytes, slotBytes, wordBytes, toneBytes, mapBytes, tidy}
 use Rattle.sheet.proofs.Sound.{Bytes, Sound}
@@ -117,7 +117,7 @@ short-slot n (Described t) = kind (t .kind)
     kind (Pair x) = short-written pair (numbersOf n x) (omega arith)
     kind (Single x) = short-written single (numbersOf n x) (omega arith)
 
-short-word : (n v : ℕ) (empty : Bool) → Short 6 (pick empty [] (written silence (n ∷ v ∷ [])))
+short-word : (n v : ℕ) (empty : Bool) → Short 6 (cond empty [] (written silence (n ∷ v ∷ [])))
 short-word n v true = short-nil 6
 short-word n v false = short-written silence (n ∷ v ∷ []) (omega arith)
 
@@ -195,7 +195,7 @@ module _ (l : Line) (S : Sound l) where
       ranged 1 0 7 n (omega arith) (omega arith) (omega arith) (newMap v (S .maps-small n) (clear-beyond (l .size) n v (λ k b. S .maps-within n k)))
 
   map-ends : (n : ℕ) (empty : Bool) (q : List ℕ) → n < 8 → eqb (getD (l .maps) n 0) 0 ≡ empty → Ends l q (l .size) (suc n)
-      → Ends l (pick empty [] (written silence (n ∷ getD (l .maps) n 0 ∷ [])) ++ q) (l .size) n
+      → Ends l (cond empty [] (written silence (n ∷ getD (l .maps) n 0 ∷ [])) ++ q) (l .size) n
   unfolding part
   map-ends n true q h e ends = rw (← filled-skip 0 8 (l .maps) n (eqb-true (getD (l .maps) n 0) 0 e)) ends
   map-ends n false q h e ends =

@@ -1,6 +1,6 @@
 -- What a sheet means, for all byte lists of any length. Document 01, 'The line sheet' and 'Why a sheet is turned down'.
 -- Assumes nothing.
-use mathlib.Core.Bool.{Bool, true, false}
+use mathlib.Core.Bool.{Bool, true, false, cond}
 use mathlib.Core.List.{List}
 use Prim.Native.Nat.{ℕ, zero, suc}
 use lib.Dec.{ltb}
@@ -16,7 +16,7 @@ use Rattle.command.specs.declared.Refusal.the-variants.{SheetTooLong, SheetEnds
 use Rattle.command.specs.declared.Command.{Command}
 use Rattle.command.specs.declared.Command.the-variants.{Size, Gap, Budget, Describe, Silence, End, Refused}
 use Rattle.command.specs.declared.Decoded.{Decoded}
-use Rattle.command.specs.Rows.{pick, decoded}
+use Rattle.command.specs.Rows.{decoded}
 use Rattle.sheet.specs.declared.Answer.{Answer}
 use Rattle.sheet.specs.declared.Answer.the-variants as answer
 use Rattle.sheet.specs.declared.Sheet.{Sheet}
@@ -67,7 +67,7 @@ pub data Next : Type 0 where
 
 -- '07 as the last byte'; refusal 7: 'Bytes follow the end command.'
 abbrev pub afterCommand : Command → (next : ℕ) → List ℕ → (stage : ℕ) → Line → Next
-afterCommand End next s stage l = stop (pick (ltb next (length s)) (refused (BytesAfterEnd next)) (accepted l))
+afterCommand End next s stage l = stop (cond (ltb next (length s)) (refused (BytesAfterEnd next)) (accepted l))
 afterCommand (Refused r) next s stage l = stop (refused r)
 afterCommand (Size n) next s stage l = go next (stageAfter (Size n) stage) (effect (Size n) l)
 afterCommand (Gap g) next s stage l = go next (stageAfter (Gap g) stage) (effect (Gap g) l)
@@ -94,7 +94,7 @@ readFrom (suc most) s at stage l = follow (afterDecoded (commandIn l s at stage)
 
 -- 'Refusal 1 is judged first, then 2 to 7 as the reading meets them.'
 unfoldable pub reading : List ℕ → Reading
-reading s = pick (ltb 4096 (length s)) (refused SheetTooLong) (readFrom (suc (length s)) s 0 0 emptyLine)
+reading s = cond (ltb 4096 (length s)) (refused SheetTooLong) (readFrom (suc (length s)) s 0 0 emptyLine)
 
 -- the reading that `read_sheet` answers: a refusal has no line
 abbrev pub answerOf : Answer → Line → Reading

@@ -1,5 +1,6 @@
 -- The tidy form of a line. Document 01, 'The line sheet'.
 -- Assumes nothing.
+use mathlib.Core.Bool.{cond}
 use mathlib.Core.List.{List, [], _∷_, _++_}
 use Prim.Native.Nat.{ℕ, zero, suc}
 use lib.Dec.{eqb}
@@ -13,7 +14,7 @@ use Rattle.line.specs.declared.Slot.the-variants.{Undescribed, Described}
 use Rattle.line.specs.declared.Entry.{Entry}
 use Rattle.line.specs.declared.Line.{Line}
 use Rattle.line.specs.Line.{blank}
-use Rattle.command.specs.Rows.{pick, Row, Operand, size, gap, budget, pair, single, silence, end}
+use Rattle.command.specs.Rows.{Row, Operand, size, gap, budget, pair, single, silence, end}
 
 -- A command as bytes: its own, then its operands' values, each in its width.
 abbrev pub operandBytes : List Operand → (values : List ℕ) → List ℕ
@@ -42,7 +43,7 @@ toneBytes (suc n) entries = toneBytes n entries ++ slotBytes n (getD entries n b
 
 -- 'for each word in rising order one 06 if its joined map is not zero'
 abbrev pub wordBytes : (word map : ℕ) → List ℕ
-wordBytes word map = pick (eqb map 0) [] (written silence (word ∷ map ∷ []))
+wordBytes word map = cond (eqb map 0) [] (written silence (word ∷ map ∷ []))
 
 unfoldable pub mapBytes : (count : ℕ) → (maps : List ℕ) → List ℕ
 mapBytes zero maps = []

@@ -1,7 +1,7 @@
 // Reading a line sheet: document 01, 'The line sheet' and 'Why a sheet is turned down'.
 ghost use mathlib.Core.Path.{_≡_};
 ghost use Prim.Native.Nat.{_+_, _≤_, _<_};
-ghost use lib.ListN.{getD};
+ghost use lib.ListN.{length, getD};
 ghost use Rattle.silence.specs.Map.{count};
 ghost use Rattle.sheet.specs.Check.{checking, checkNumbers, checkOutcome};
 ghost use Rattle.sheet.specs.Reading.{isDescribed, describedIn, readingOf, reading, meant};
@@ -42,7 +42,7 @@ fn is_described(entry: Entry) -> bool
 
 // The byte after a place, or 0 past the end.
 fn byte_after(s: &[u8], at: usize) -> usize
-    requires { ⌜ at ≤ 4096 ⌝ }
+    requires { ⌜ at ≤ length (now s) ⌝ }
     ensures meaning { λ r. ⌜ r ≡ getD (now (s .entry)) (at + 1) 0 ⌝ }
     ensures range { λ r. ⌜ r < 256 ⌝ }
 {
@@ -67,10 +67,6 @@ pub fn read_sheet(s: &[u8]) -> Sheet
     let mut at: usize = 0;
     // How many of the first three commands are read; 4 once the reading has ended.
     let mut stage: u8 = 0;
-    if 4096 < s.len() {
-        answer = Answer::Refused(Refusal::SheetTooLong);
-        stage = 4;
-    }
     while stage < 4 {
         let after = byte_after(s, at);
         let entry = entries[after];

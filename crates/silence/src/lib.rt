@@ -1,15 +1,14 @@
 // The silence maps of a line: eight words of 32 tones.
 ghost use mathlib.Core.Path.{_≡_};
-ghost use Prim.Native.Nat.{_<_};
 ghost use lib.Dec.{eqb};
 ghost use Rattle.silence.specs.Map.{bit, silenced, namesBeyond, count};
 
 // Whether the maps silence a tone.
-pub fn is_silenced(maps: &[u32; 8], tone: usize) -> bool
-    requires { ⌜ tone < 256 ⌝ }
+pub fn is_silenced(maps: &[u32; 8], tone: u8) -> bool
     ensures { λ r. ⌜ r ≡ silenced (now (maps .entry)) tone ⌝ }
 {
-    (maps[tone / 32] >> (tone % 32)) % 2 == 1
+    let word = (tone / 32) as usize;
+    (maps[word] >> (tone % 32)) % 2 == 1
 }
 
 // Whether the map of a word names a tone that is `size` or more.

@@ -1,6 +1,6 @@
 -- The three outcomes of tidying, each with its answer and its buffer.
 -- Assumes nothing.
-use mathlib.Core.Bool.{Bool, true, false}
+use mathlib.Core.Bool.{Bool, true, false, cond}
 use mathlib.Core.List.{List, [], _∷_, _++_}
 use mathlib.Core.Path.{_≡_, refl, ap, _∙_}
 use Prim.Native.Nat.{ℕ, _+_, _≤_, _<_}
@@ -15,7 +15,6 @@ use Rattle.command.specs.declared.Refusal.the-variants.{DestinationTooSmall}
 use Rattle.sheet.specs.Reading.{Reading, accepted, refused}
 use Rattle.sheet.specs.Tidy.{tidy}
 use Rattle.command.specs.Refusals.{refusal, success}
-use Rattle.command.specs.Rows.{pick}
 use Rattle.tidy.specs.declared.Tidied.{Tidied}
 use Rattle.tidy.specs.declared.Tidied.the-variants.{Length, Refused}
 use Rattle.tidy.specs.Tidying.{tidying, tidyNumbers, tidyOutcome, afterTidying}
@@ -25,7 +24,7 @@ same-numbers : (x : Reading) (room : ℕ) → tidyNumbers (tidying x room) ≡ t
 same-numbers (refused r) room = refl
 same-numbers (accepted l) room = by-test (ltb room (length (tidy l)))
   where
-    by-test : (t : Bool) → tidyNumbers (pick t (Refused DestinationTooSmall) (Length (length (tidy l)))) ≡ pick t (refusal 1 DestinationTooSmall) (success (length (tidy l) ∷ []))
+    by-test : (t : Bool) → tidyNumbers (cond t (Refused DestinationTooSmall) (Length (length (tidy l)))) ≡ cond t (refusal 1 DestinationTooSmall) (success (length (tidy l) ∷ []))
     by-test true = refl
     by-test false = refl
 

@@ -1,25 +1,25 @@
 -- The call that tidies a sheet, for all bytes and all buffers. Document 01: 'Tidying answers its length. Bytes of a longer buffer past
 -- those stay as they were'; refusal 8: 'The lent destination is too small', here 'under the tidy length'.
 -- Assumes nothing.
+use mathlib.Core.Bool.{cond}
 use mathlib.Core.List.{List, [], _∷_, _++_}
 use Prim.Native.Nat.{ℕ}
 use lib.Dec.{ltb}
 use lib.ListN.{length, drop}
 use Rattle.command.specs.declared.Refusal.the-variants.{DestinationTooSmall}
 use Rattle.command.specs.Refusals.{Outcome, success, refusal}
-use Rattle.command.specs.Rows.{pick}
 use Rattle.sheet.specs.Reading.{Reading, accepted, refused}
 use Rattle.sheet.specs.Tidy.{tidy}
 use Rattle.tidy.specs.declared.Tidied.{Tidied}
 use Rattle.tidy.specs.declared.Tidied.the-variants.{Length, Refused}
 
 abbrev pub tidying : Reading → (room : ℕ) → Tidied
-tidying (accepted l) room = pick (ltb room (length (tidy l))) (Refused DestinationTooSmall) (Length (length (tidy l)))
+tidying (accepted l) room = cond (ltb room (length (tidy l))) (Refused DestinationTooSmall) (Length (length (tidy l)))
 tidying (refused r) room = Refused r
 
 -- the buffer afterwards: a refusal changes no byte of it
 abbrev pub afterTidying : Reading → (old : List ℕ) → List ℕ
-afterTidying (accepted l) old = pick (ltb (length old) (length (tidy l))) old (tidy l ++ drop (length (tidy l)) old)
+afterTidying (accepted l) old = cond (ltb (length old) (length (tidy l))) old (tidy l ++ drop (length (tidy l)) old)
 afterTidying (refused r) old = old
 
 -- the paper's number, place and answer of each case
@@ -29,5 +29,5 @@ tidyNumbers (Refused r) = refusal 1 r
 
 -- what tidying answers in those numbers: the tidy length, or the refusal
 abbrev pub tidyOutcome : Reading → (room : ℕ) → Outcome
-tidyOutcome (accepted l) room = pick (ltb room (length (tidy l))) (refusal 1 DestinationTooSmall) (success (length (tidy l) ∷ []))
+tidyOutcome (accepted l) room = cond (ltb room (length (tidy l))) (refusal 1 DestinationTooSmall) (success (length (tidy l) ∷ []))
 tidyOutcome (refused r) room = refusal 1 r

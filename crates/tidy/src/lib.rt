@@ -1,4 +1,6 @@
 // Tidying a sheet: document 01, 'The line sheet'.
+mod writer;
+
 ghost use mathlib.Core.Path.{_≡_};
 ghost use Prim.Native.Nat.{ℕ, _+_, _≤_};
 ghost use lib.ListN.{length};

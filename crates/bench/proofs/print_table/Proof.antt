@@ -1,5 +1,4 @@
 -- `bench::print_table` meets its contract: every place that it reads is in the table. Assumes nothing.
-use native.Mathlib.Omega.{arith}
 use Prim.Native.Nat.{_-_, _≤_}
 use borrow.Author.Needs.{needs}
 use Rattle.bench.proofs.print_table.Statement.{statement}
@@ -21,9 +20,7 @@ mul-number-at : tie.Need-mul-number-at Inv-loop μ-loop
 mul-number-at c = search needs
 
 number-at-requires : tie.Need-number-at-requires Inv-loop μ-loop
-number-at-requires c κs =
-    let p = c .before .before .before .before .pre in
-    (omega (arith, c .before .loop-test .taken), omega arith)
+number-at-requires c κs = search needs
 
 mul-number-at-2 : tie.Need-mul-number-at-2 Inv-loop μ-loop
 mul-number-at-2 c = search needs
@@ -32,9 +29,7 @@ add-number-at : tie.Need-add-number-at Inv-loop μ-loop
 add-number-at c = search needs
 
 number-at-requires-2 : tie.Need-number-at-requires-2 Inv-loop μ-loop
-number-at-requires-2 c κs =
-    let p = c .before .before .before .before .before .pre in
-    (omega (arith, c .before .before .loop-test .taken), omega arith)
+number-at-requires-2 c κs = search needs
 
 print-two-requires : tie.Need-print-two-requires Inv-loop μ-loop
 print-two-requires c κs = search needs

@@ -1,10 +1,17 @@
 -- `command::silence_command` meets its contract. Assumes nothing.
-use mathlib.Core.Path.{refl, sym, _∙_}
+use mathlib.Core.Path.{_≡_, refl, sym, _∙_}
+use Prim.Native.Nat.{_+_}
 use native.Mathlib.Omega.{arith}
 use borrow.Author.Needs.{needs}
+use Rattle.bigendian.specs.Number.{number}
+use Rattle.bigendian.proofs.Numbers.{number-there}
 use Rattle.command.proofs.Rows.{above, in-range, silence-at}
 use Rattle.command.proofs.silence_command.Statement.{statement}
 use Rattle.command.proofs.silence_command.Tie as tie
+
+-- the map is there, and is read
+map-read : (c : tie.After-number-at) → let a = c .before .before .before .before .args in c .number-at .result ≡ number (a .s .now) (a .at + 2) 4
+map-read c = c .number-at .ensures .0 ∙ number-there _ _ 4 (omega arith) (omega arith)
 
 add-word : tie.Need-add-word
 add-word c = search needs
@@ -45,14 +52,14 @@ returns-2 c described =
     sym
     (silence-at _ described _ _
     ∙ in-range _ _ _ _ refl (omega arith) (c .before .before .before .if1 .left)
-    ∙ rw (sym (c .before .before .number-at .ensures .0), sym (c .before .names-beyond .ensures), c .if2 .taken))
+    ∙ rw (sym (map-read (c .before .before)), sym (c .before .names-beyond .ensures), c .if2 .taken))
 
 returns-3 : tie.Need-returns-3
 returns-3 c described =
     sym
     (silence-at _ described _ _
     ∙ in-range _ _ _ _ refl (omega arith) (c .before .before .before .if1 .left)
-    ∙ rw (sym (c .before .before .number-at .ensures .0), sym (c .before .names-beyond .ensures), c .if2 .left))
+    ∙ rw (sym (map-read (c .before .before)), sym (c .before .names-beyond .ensures), c .if2 .left))
 
 pub silence-command-spec : {M : Type 1} → statement M
 silence-command-spec =

@@ -6,6 +6,8 @@ use Prim.Native.Nat.{ℕ, _+_}
 use native.Mathlib.Omega.{arith}
 use borrow.Author.Needs.{needs}
 use borrow.Author.Tests.{le-leb, lt-leb}
+use Rattle.bigendian.specs.Number.{number}
+use Rattle.bigendian.proofs.Numbers.{number-there}
 use Rattle.command.specs.declared.Command.{Command}
 use Rattle.command.specs.Rows.{rowAt, toneRow}
 use Rattle.command.proofs.Rows.{below, above, in-range, tone-at, fromNoise, fromGain, fromCap, fromMask}
@@ -18,6 +20,16 @@ Leaves from c =
     rowAt (c .args .size) (λ i. c .args .taken) (c .args .s .now) (c .args .at) (toneRow (c .args .is-single))
     ≡ from (c .args .s .now) (c .args .at) (c .args .is-single)
 
+-- the operands are there, and are read
+noise-read : (c : tie.After-number-at) → let a = c .before .before .before .before .before .args in c .number-at .result ≡ number (a .s .now) (a .at + 2) 2
+noise-read c = c .number-at .ensures .0 ∙ number-there _ _ 2 (omega arith) (omega arith)
+
+gain-read : (c : tie.After-number-at2) → let a = c .before .before .before .before .before .before .before .args in c .number-at2 .result ≡ number (a .s .now) (a .at + 4) 2
+gain-read c = c .number-at2 .ensures .0 ∙ number-there _ _ 2 (omega arith) (omega arith)
+
+mask-read : (c : tie.After-number-at3) → let a = c .before .before .before .before .before .before .before .before .before .before .before .before .args in c .number-at3 .result ≡ number (a .s .now) (a .at + 7) 8
+mask-read c = c .number-at3 .ensures .0 ∙ number-there _ _ 8 (omega arith) (omega arith)
+
 -- each operand that passes leaves it to those after it
 to-noise : (c : tie.Else2) → Leaves fromNoise (c .before .before .before .before)
 to-noise c = tone-at _ _ _ _ (c .before .before .before .before .args .is-single) ∙ simp (lt-leb _ _ (c .before .if1 .left), c .if2 .left)
@@ -25,12 +37,12 @@ to-noise c = tone-at _ _ _ _ (c .before .before .before .before .args .is-single
 to-gain : (c : tie.Else3) → Leaves fromGain (c .before .before .before .before .before .before)
 to-gain c =
     to-noise (c .before .before)
-    ∙ in-range _ _ _ _ (c .before .number-at .ensures .0) (c .if3 .left) (omega (arith, c .before .number-at .ensures .1))
+    ∙ in-range _ _ _ _ (noise-read (c .before)) (c .if3 .left) (omega (arith, c .before .number-at .ensures .1))
 
 to-cap : (c : tie.Else4) → Leaves fromCap (c .before .before .before .before .before .before .before .before)
 to-cap c =
     to-gain (c .before .before)
-    ∙ in-range _ _ _ _ (c .before .number-at2 .ensures .0) (c .if4 .left) (omega (arith, c .before .number-at2 .ensures .1))
+    ∙ in-range _ _ _ _ (gain-read (c .before)) (c .if4 .left) (omega (arith, c .before .number-at2 .ensures .1))
 
 to-mask : (c : tie.Else5) → Leaves fromMask (c .before .before .before .before .before .before .before .before .before .before .before)
 to-mask c = to-cap (c .before .before .before) ∙ in-range _ _ _ _ refl (omega arith) (rw (c .before .most-cap .ensures) at (c .if5 .left))
@@ -76,7 +88,7 @@ out-of-range-requires c κs = search needs
 
 returns-3 : tie.Need-returns-3
 returns-3 c =
-    c .out-of-range .ensures ∙ sym (to-noise (c .before .before .before) ∙ below _ _ _ _ (c .before .before .number-at .ensures .0) (c .before .if3 .taken))
+    c .out-of-range .ensures ∙ sym (to-noise (c .before .before .before) ∙ below _ _ _ _ (noise-read (c .before .before)) (c .before .if3 .taken))
 
 add-number-at-2 : tie.Need-add-number-at-2
 add-number-at-2 c = search needs
@@ -92,7 +104,7 @@ out-of-range-requires-2 c κs = search needs
 
 returns-4 : tie.Need-returns-4
 returns-4 c =
-    c .out-of-range2 .ensures ∙ sym (to-gain (c .before .before .before) ∙ below _ _ _ _ (c .before .before .number-at2 .ensures .0) (c .before .if4 .taken))
+    c .out-of-range2 .ensures ∙ sym (to-gain (c .before .before .before) ∙ below _ _ _ _ (gain-read (c .before .before)) (c .before .if4 .taken))
 
 add-cap : tie.Need-add-cap
 add-cap c = search needs
@@ -129,7 +141,7 @@ out-of-range-requires-4 c κs = search needs
 returns-6 : tie.Need-returns-6
 returns-6 c =
     c .out-of-range4 .ensures
-    ∙ sym (to-mask (c .before .before .before) ∙ above _ _ _ _ (c .before .before .number-at3 .ensures .0) (omega arith) (c .before .if6 .taken))
+    ∙ sym (to-mask (c .before .before .before) ∙ above _ _ _ _ (mask-read (c .before .before)) (omega arith) (c .before .if6 .taken))
 
 cast-t16 : tie.Need-cast-t16
 cast-t16 c = search needs
@@ -144,11 +156,11 @@ returns-7 : tie.Need-returns-7
 returns-7 c =
     rw (
       c .tone-of .ensures,
-      c .before .before .before .before .before .before .before .before .before .number-at .ensures .0,
-      c .before .before .before .before .before .before .before .number-at2 .ensures .0,
-      c .before .before .number-at3 .ensures .0,
+      noise-read (c .before .before .before .before .before .before .before .before .before),
+      gain-read (c .before .before .before .before .before .before .before),
+      mask-read (c .before .before),
     )
-    (sym (to-mask (c .before .before .before) ∙ in-range _ _ _ _ (c .before .before .number-at3 .ensures .0) (omega arith) (c .before .if6 .left)))
+    (sym (to-mask (c .before .before .before) ∙ in-range _ _ _ _ (mask-read (c .before .before)) (omega arith) (c .before .if6 .left)))
 
 pub tone-command-spec : {M : Type 1} → statement M
 tone-command-spec =

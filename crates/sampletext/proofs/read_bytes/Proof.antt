@@ -1,5 +1,5 @@
 -- `sampletext::read_bytes` meets its contract. The loop's invariant: the buffer keeps its length, and the reading is within it. The measure is what is left of the text: a turn takes what stands up to a group and the group. Assumes nothing.
-use Prim.Native.Nat.{_≤_, _-_}
+use Prim.Native.Nat.{ℕ, _+_, _-_, _≤_, _<_}
 use mathlib.Core.Path.{_≡_}
 use lib.ListN.{length}
 use borrow.Author.Needs.{needs}
@@ -53,8 +53,13 @@ part-read-group-end c = search needs
 read-group-requires : tie.Need-read-group-requires Inv-loop μ-loop
 read-group-requires c κs = search needs
 
+-- After the number of a group less of the n characters is left.
+less-left : (n at group close next : ℕ) → at < n → at ≤ group → group + 1 ≤ close → close ≤ next → n - next < n - at
+less-left n at group close next inside to-group to-close to-next = omega arith
+
 loop-less : tie.Need-loop-less Inv-loop μ-loop
-loop-less c = search needs
+loop-less c =
+    less-left _ _ _ _ _ (c .before .before .before .before .before .before .before .before .before .before .before .before .before .before .loop-test .taken) (c .before .before .before .before .before .before .before .before .before .before .before .before .before .find .ensures .1 .0) (c .before .before .before .before .before .before .find2 .ensures .1 .0) (c .before .before .before .before .before .times-at .ensures .0)
 
 loop-again : tie.Need-loop-again Inv-loop μ-loop
 loop-again c = search needs

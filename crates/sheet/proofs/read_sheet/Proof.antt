@@ -1,16 +1,15 @@
 -- `sheet::read_sheet` meets its contract. Between the turns, what remains of the reading gives what the whole gives; at stage 4 the answer does.
 -- Assumes nothing.
-use mathlib.Core.Logic.{⊎-elim}
 use mathlib.Core.Path.{_≡_, ap, _∙_}
 use Prim.Native.Nat.{ℕ, _+_}
 use native.Mathlib.Omega.{arith}
-use lib.ListN.{getD}
+use lib.ListN.{length, getD}
 use borrow.Author.Needs.{needs}
 use Rattle.line.specs.declared.Line.{Line}
 use Rattle.command.specs.declared.Command.{Command}
-use Rattle.command.proofs.Rows.{decoded-same}
+use Rattle.command.proofs.Rows.{command-same}
 use Rattle.sheet.specs.Reading.{describedIn}
-use Rattle.sheet.proofs.Turns.{Stands, left, Turn, turned, starts, too-long}
+use Rattle.sheet.proofs.Turns.{Stands, left, Turn, turned, starts}
 use Rattle.sheet.proofs.read_sheet.Statement.{statement}
 use Rattle.sheet.proofs.read_sheet.Tie as tie
 
@@ -20,27 +19,27 @@ Inv-loop s size₀ gap₀ budget₀ entries₀ maps₀ answer₀ at₀ stage₀ 
 
 abbrev μ-loop : tie.MeasureT-loop
 μ-loop s size₀ gap₀ budget₀ entries₀ maps₀ answer₀ at₀ stage₀ size gap budget entries maps answer at stage =
-    left at stage
+    left (length s) at stage
 
 -- a turn from where the loop stands, with a command and the place after it
 abbrev Turn-of : tie.At-loop Inv-loop μ-loop → ℕ → Command → Type 0
 Turn-of a =
     let line : Line = record { size = a .loop .size; gap = a .loop .gap; budget = a .loop .budget; entries = a .loop .entries; maps = a .loop .maps } in
-    Turn (a .before .before .before .args .s .now) line (a .loop .answer) (a .loop .at) (a .loop .stage)
+    Turn (a .before .before .args .s .now) line (a .loop .answer) (a .loop .at) (a .loop .stage)
 
 -- what was decoded is the command of the line so far
 turn : (c : tie.After-decode Inv-loop μ-loop) (m : Command) → c .decode .result .command ≡ m → Turn-of (c .before .before .before .before .before) (c .decode .result .next) m
 turn c =
     let a = c .before .before .before .before .before in
-    let s = a .before .before .before .args .s .now in
+    let s = a .before .before .args .s .now in
     let entries = a .loop .entries in
     let taken : c .before .is-described .result ≡ describedIn entries (getD s (a .loop .at + 1) 0) =
     c .before .is-described .ensures ∙ ap (describedIn entries) (c .before .before .before .byte-after .ensures .0) in
     turned (a .loop .inv) (c .before .before .before .before .loop-test .taken) _
-    (rw (c .decode .ensures) (decoded-same (a .loop .size) (λ i. c .before .is-described .result) (describedIn entries) s (a .loop .at) (a .loop .stage) taken))
+    (rw (c .decode .ensures) (command-same (a .loop .size) (λ i. c .before .is-described .result) (describedIn entries) s (a .loop .at) (a .loop .stage) taken))
 
 loop-holds : tie.Need-loop-holds Inv-loop μ-loop
-loop-holds c = ⊎-elim (λ w. rw (w .1, w .2) (too-long _ _ (w .0 .taken))) (λ w. rw (w .1, w .2) (starts _ (w .0 .left))) (c .if1 .came)
+loop-holds c = starts _
 
 byte-after-requires : tie.Need-byte-after-requires Inv-loop μ-loop
 byte-after-requires c κs = let g = c .before .loop .inv .going (c .loop-test .taken) in omega arith
@@ -55,28 +54,27 @@ is-described-requires : tie.Need-is-described-requires Inv-loop μ-loop
 is-described-requires c κs = search needs
 
 decode-requires : tie.Need-decode-requires Inv-loop μ-loop
-decode-requires c κs = c .before .before .before .before .loop .inv .going (c .before .before .before .loop-test .taken) .short
+decode-requires c κs = search needs
 
 enum-told : tie.Need-enum-told Inv-loop μ-loop
 enum-told c = search needs
 
-cast-t36 : tie.Need-cast-t36 Inv-loop μ-loop
-cast-t36 c =
-    let d = c .before .before .before in
-    let g = d .before .before .before .before .before .loop .inv .going (d .before .before .before .before .loop-test .taken) in
+cast-t33 : tie.Need-cast-t33 Inv-loop μ-loop
+cast-t33 c =
+    let there = turn (c .before .before .before) _ (c .before .enum-told .given .1) .0 (c .if1 .taken) .said in
     record { fits = omega arith }
 
 loop-less : tie.Need-loop-less Inv-loop μ-loop
-loop-less c = turn (c .before .before .before) _ (c .before .enum-told .given .1) .0 (c .if2 .taken) .less
+loop-less c = turn (c .before .before .before) _ (c .before .enum-told .given .1) .0 (c .if1 .taken) .less
 
 loop-again : tie.Need-loop-again Inv-loop μ-loop
-loop-again c = turn (c .before .before .before) _ (c .before .enum-told .given .1) .0 (c .if2 .taken) .again
+loop-again c = turn (c .before .before .before) _ (c .before .enum-told .given .1) .0 (c .if1 .taken) .again
 
 loop-less-2 : tie.Need-loop-less-2 Inv-loop μ-loop
-loop-less-2 c = turn (c .before .before .before) _ (c .before .enum-told .given .1) .1 (c .if2 .left) .less
+loop-less-2 c = turn (c .before .before .before) _ (c .before .enum-told .given .1) .1 (c .if1 .left) .less
 
 loop-again-2 : tie.Need-loop-again-2 Inv-loop μ-loop
-loop-again-2 c = turn (c .before .before .before) _ (c .before .enum-told .given .1) .1 (c .if2 .left) .again
+loop-again-2 c = turn (c .before .before .before) _ (c .before .enum-told .given .1) .1 (c .if1 .left) .again
 
 enum-known-command : tie.Need-enum-known-command Inv-loop μ-loop
 enum-known-command c = search needs
@@ -139,19 +137,19 @@ cast-joined : tie.Need-cast-joined Inv-loop μ-loop
 cast-joined c = search needs
 
 mul-joined : tie.Need-mul-joined Inv-loop μ-loop
-mul-joined c = record { fits = omega (arith, turn (c .before .before .before) _ (c .before .command6 .given .1) .said .2) }
+mul-joined c = record { fits = omega (arith, turn (c .before .before .before) _ (c .before .command6 .given .1) .said .1) }
 
 array-read-joined : tie.Need-array-read-joined Inv-loop μ-loop
-array-read-joined c = turn (c .before .before .before) _ (c .before .command6 .given .1) .said .2
+array-read-joined c = turn (c .before .before .before) _ (c .before .command6 .given .1) .said .1
 
 cast-maps : tie.Need-cast-maps Inv-loop μ-loop
 cast-maps c = search needs
 
 mul-maps : tie.Need-mul-maps Inv-loop μ-loop
-mul-maps c = record { fits = omega (arith, turn (c .before .before .before) _ (c .before .command6 .given .1) .said .2) }
+mul-maps c = record { fits = omega (arith, turn (c .before .before .before) _ (c .before .command6 .given .1) .said .1) }
 
 array-write-maps : tie.Need-array-write-maps Inv-loop μ-loop
-array-write-maps c = turn (c .before .before .before) _ (c .before .command6 .given .1) .said .2
+array-write-maps c = turn (c .before .before .before) _ (c .before .command6 .given .1) .said .1
 
 loop-less-8 : tie.Need-loop-less-8 Inv-loop μ-loop
 loop-less-8 c = turn (c .before .before .before) _ (c .before .command6 .given .1) .less
@@ -175,7 +173,7 @@ read-sheet-spec =
     is-described-requires
     decode-requires
     enum-told
-    cast-t36
+    cast-t33
     loop-less
     loop-again
     loop-less-2

@@ -3,6 +3,7 @@ use mathlib.Core.Path.{_∙_}
 use native.Mathlib.Numerals.{add-one}
 use native.Mathlib.Omega.{arith}
 use lib.ListN.{length-set}
+use Rattle.bigendian.proofs.Numbers.{number-fits}
 use borrow.Author.Needs.{needs}
 use Rattle.tables.proofs.put_tone.Statement.{statement}
 use Rattle.tables.proofs.put_tone.Tie as tie
@@ -14,13 +15,13 @@ add-put-number : tie.Need-add-put-number
 add-put-number c = search needs
 
 put-number-requires : tie.Need-put-number-requires
-put-number-requires c κs = simp length-set (omega arith)
+put-number-requires c κs = search needs
 
 same-length : tie.Need-same-length
 same-length c = c .before .before .put-number .kept .0 ∙ simp length-set
 
 returns : tie.Need-returns
-returns c = rw (c .before .before .put-number .ensures, add-one)
+returns c = rw (c .before .before .put-number .ensures ∙ number-fits _ _ _ _ (simp length-set (omega arith)), add-one)
 
 pub put-tone-spec : {M : Type 1} → statement M
 put-tone-spec =

@@ -1,0 +1,192 @@
+// The loadings and the re-fits of the test program: each call made, and what it answers printed.
+//
+//   loaded 6 39              bits and power; of a re-fit `refitted`, and the moves besides
+//   table 3:21 2:15 1:3      bits:power of each tone
+//   exact same               into 9 bytes a tone: the same, and past them the first buffer is untouched
+//   short 8 0 untouched      into one byte less: refusal and place
+//
+// On a refusal the first three lines are one, `refused`, its number and place, and `untouched`.
+use crate::printing::print;
+use crate::printing::print_number;
+use crate::printing::print_pair;
+use crate::printing::print_touched;
+use command::Refusal;
+use command::refusal_number;
+use command::refusal_place;
+use lineloads::Loaded;
+use lineloads::Refitted;
+use sampletext::ROOM;
+use sampletext::filled;
+use sampletext::same;
+use sampletext::wide;
+use sampletext::within;
+use sheet::Checked;
+
+// A loading or a re-fit.
+pub(crate) enum Call {
+    Most,
+    Target(u32),
+    Refit,
+    Step,
+}
+
+// What a loading or a re-fit answers: a refusal's number and place, or number 0 and the totals. A
+// loading has no moves.
+struct Totals {
+    number: u32,
+    place: u32,
+    bits: u32,
+    power: u64,
+    moves: u32,
+}
+
+fn refused(why: Refusal) -> Totals {
+    Totals {
+        number: refusal_number(why),
+        place: refusal_place(why),
+        bits: 0,
+        power: 0,
+        moves: 0,
+    }
+}
+
+fn loaded(answer: Loaded) -> Totals {
+    match answer {
+        Loaded::Totals(bits, power) => Totals {
+            number: 0,
+            place: 0,
+            bits: bits,
+            power: power,
+            moves: 0,
+        },
+        Loaded::Refused(why) => refused(why),
+    }
+}
+
+fn refitted(answer: Refitted) -> Totals {
+    match answer {
+        Refitted::Totals(bits, power, moves) => Totals {
+            number: 0,
+            place: 0,
+            bits: bits,
+            power: power,
+            moves: moves,
+        },
+        Refitted::Refused(why) => refused(why),
+    }
+}
+
+// Makes a call. A loading takes no start.
+fn made(call: Call, sheet: &[u8], start: &[u8], table: &mut [u8]) -> Totals {
+    match call {
+        Call::Most => loaded(loader::load_most(sheet, table)),
+        Call::Target(bits) => loaded(loader::load_target(sheet, bits, table)),
+        Call::Refit => refitted(loader::refit(sheet, start, table)),
+        Call::Step => refitted(loader::refit_step(sheet, start, table)),
+    }
+}
+
+// How many bytes the table of a sheet takes; 0 for a sheet that is refused.
+fn table_bytes(sheet: &[u8]) -> usize {
+    match loader::check(sheet) {
+        Checked::Counts(n, _, _) => 9 * n as usize,
+        Checked::Refused(_) => 0,
+    }
+}
+
+// Prints what a call answers that is not refused.
+fn print_totals(call: Call, t: Totals) {
+    match call {
+        Call::Most | Call::Target(_) => print_pair(b"loaded ", t.bits as u64, t.power),
+        Call::Refit | Call::Step => {
+            print_pair(b"refitted ", t.bits as u64, t.power);
+            print(b" ");
+            print_number(t.moves as u64);
+        }
+    }
+    print(b"\n");
+}
+
+// The tones of a table, 9 bytes each, as bits:power with a blank before.
+fn print_tones(table: &[u8]) {
+    let mut at = 0;
+    while 9 <= table.len() - at {
+        print(b" ");
+        print_number(wide(table[at]));
+        print(b":");
+        print_number(bigendian::number_at(table, at + 1, 8));
+        at += 9;
+    }
+}
+
+// The sum of the bytes, each times its place counted from the end, where 1 stands; modulo 2^64.
+fn sum(bytes: &[u8]) -> u64 {
+    let mut of_bytes: u64 = 0;
+    let mut sum: u64 = 0;
+    let mut i = 0;
+    while i < bytes.len() {
+        of_bytes = std::num::wrapping_add_u64(of_bytes, wide(bytes[i]));
+        sum = std::num::wrapping_add_u64(sum, of_bytes);
+        i += 1;
+    }
+    sum
+}
+
+// Prints a table: each tone's bits and power, or for more than 32 tones a sum over its bytes.
+fn print_table(table: &[u8]) {
+    print(b"table");
+    if table.len() <= 288 {
+        print_tones(table);
+    } else {
+        print_pair(b" length and sum ", table.len() as u64, sum(table));
+    }
+    print(b"\n");
+}
+
+// Makes a call again, into a buffer that is just long enough. The whole buffers are compared: past
+// the table both are as they were filled.
+fn show_exact(call: Call, sheet: &[u8], start: &[u8], table: [u8; ROOM], t: Totals, bytes: usize) {
+    let mut again = filled();
+    let room = within(bytes, &again);
+    let u = made(call, sheet, start, &mut again[..room]);
+    let equal = t.number == u.number
+        && t.bits == u.bits
+        && t.power == u.power
+        && t.moves == u.moves;
+    if equal && same(&table, &again) {
+        print(b"exact same\n");
+    } else {
+        print(b"exact differs\n");
+    }
+}
+
+fn one_less(n: usize) -> usize {
+    if n == 0 { 0 } else { n - 1 }
+}
+
+// Makes a call with a buffer one byte too short, or none for a sheet that is refused.
+fn show_short(call: Call, sheet: &[u8], start: &[u8], bytes: usize) {
+    let mut table = filled();
+    let room = within(one_less(bytes), &table);
+    let t = made(call, sheet, start, &mut table[..room]);
+    print_pair(b"short ", t.number as u64, t.place as u64);
+    print_touched(&table);
+}
+
+// Prints what a call answers: the totals and the table, or the refusal; then what it does with just
+// enough room, and with too little.
+pub(crate) fn show(call: Call, sheet: &[u8], start: &[u8]) {
+    let bytes = table_bytes(sheet);
+    let mut table = filled();
+    let t = made(call, sheet, start, &mut table);
+    if t.number == 0 {
+        let n = within(bytes, &table);
+        print_totals(call, t);
+        print_table(&table[..n]);
+        show_exact(call, sheet, start, table, t, bytes);
+    } else {
+        print_pair(b"refused ", t.number as u64, t.place as u64);
+        print_touched(&table);
+    }
+    show_short(call, sheet, start, bytes);
+}
