@@ -24,7 +24,8 @@ pub fn flatten(line: Line) -> Arrays
     let mut i: usize = 0;
     while i < line.size as usize {
         let entry = line.entries[i];
-        let steps = line::steps_of(line.gap, entry, silence::is_silenced(&maps, i as u8));
+        let tone = i as u8;
+        let steps = line::steps_of(line.gap, entry, silence::is_silenced(&maps, tone));
         arrays.limits[i] = steps.limit;
         arrays.costs[i] = steps.cost;
         arrays.doublings[i] = steps.doublings;

@@ -41,8 +41,8 @@ mul-entry c = record { fits = omega arith }
 element-copy-out-entry : tie.Need-element-copy-out-entry Inv-loop μ-loop
 element-copy-out-entry c = omega arith
 
-cast-is-silenced : tie.Need-cast-is-silenced Inv-loop μ-loop
-cast-is-silenced c = omega arith
+cast-tone : tie.Need-cast-tone Inv-loop μ-loop
+cast-tone c = omega arith
 
 is-silenced-requires : tie.Need-is-silenced-requires Inv-loop μ-loop
 is-silenced-requires c κs = search needs
@@ -95,7 +95,7 @@ flatten-spec =
     cast-loop
     mul-entry
     element-copy-out-entry
-    cast-is-silenced
+    cast-tone
     is-silenced-requires
     steps-of-requires
     element-write-arrays
