@@ -1,13 +1,13 @@
 -- Runs of stores, one after the other: what the tidy form leaves in a lent buffer. Assumes nothing.
 use mathlib.Core.Path.{_≡_, refl, _∙_}
 use mathlib.Core.List.{List, [], _∷_, _++_, append-assoc}
-use Prim.Native.Nat.{ℕ, suc, _+_}
+use Prim.Native.Nat.{ℕ, suc, _+_, _<_}
 use native.Mathlib.Numerals.{add-one}
 use native.Mathlib.Omega.{arith}
 use lib.ListN.{length, set}
 use lib.Seq.{sets}
 use Rattle.bigendian.specs.Number.{bytes}
-use Rattle.bigendian.proofs.Numbers.{length-bytes}
+use Rattle.bigendian.proofs.Numbers.{length-bytes, bytes-one}
 use Rattle.bigendian.proofs.Stores.{sets-append}
 use Rattle.command.specs.Rows.{size, gap, budget, pair, silence, end}
 use Rattle.line.specs.declared.Numbers.{Numbers}
@@ -22,21 +22,25 @@ sets-bytes l i w v rest j e =
 
 -- The commands, as the stores that write them.
 
-pub tone-stores : (out : List ℕ) (at code tone : ℕ) (n : Numbers)
+pub tone-stores : (out : List ℕ) (at code tone : ℕ) (n : Numbers) → tone < 256 → n .cap < 256
     → sets out at (code ∷ operandBytes (pair .operands) (numbersOf tone n))
-    ≡ sets (sets (sets (sets (sets (set out at code) (at + 1) (bytes 1 tone)) (at + 2) (bytes 2 (n .noise))) (at + 4) (bytes 2 (n .gain))) (at + 6) (bytes 1 (n .cap))) (at + 7) (bytes 8 (n .mask))
-tone-stores out at code tone n =
+    ≡ sets (set (sets (sets (set (set out at code) (at + 1) tone) (at + 2) (bytes 2 (n .noise))) (at + 4) (bytes 2 (n .gain))) (at + 6) (n .cap)) (at + 7) (bytes 8 (n .mask))
+tone-stores out at code tone n h g =
     rw add-one (
     sets-bytes (set out at code) (suc at) 1 tone _ (at + 2) (omega arith)
     ∙ sets-bytes _ (at + 2) 2 (n .noise) _ (at + 4) (omega arith)
     ∙ sets-bytes _ (at + 4) 2 (n .gain) _ (at + 6) (omega arith)
     ∙ sets-bytes _ (at + 6) 1 (n .cap) _ (at + 7) (omega arith)
-    ∙ sets-bytes _ (at + 7) 8 (n .mask) [] (at + 15) (omega arith))
+    ∙ sets-bytes _ (at + 7) 8 (n .mask) [] (at + 15) (omega arith)
+    ∙ rw (bytes-one tone h, bytes-one (n .cap) g))
 
-pub word-stores : (out : List ℕ) (at word map : ℕ)
-    → sets out at (written silence (word ∷ map ∷ [])) ≡ sets (sets (set out at 6) (at + 1) (bytes 1 word)) (at + 2) (bytes 4 map)
-word-stores out at word map =
-    rw add-one (sets-bytes (set out at 6) (suc at) 1 word _ (at + 2) (omega arith) ∙ sets-bytes _ (at + 2) 4 map [] (at + 6) (omega arith))
+pub word-stores : (out : List ℕ) (at word map : ℕ) → word < 256
+    → sets out at (written silence (word ∷ map ∷ [])) ≡ sets (set (set out at 6) (at + 1) word) (at + 2) (bytes 4 map)
+word-stores out at word map h =
+    rw add-one (
+    sets-bytes (set out at 6) (suc at) 1 word _ (at + 2) (omega arith)
+    ∙ sets-bytes _ (at + 2) 4 map [] (at + 6) (omega arith)
+    ∙ rw (bytes-one word h))
 
 pub line-stores : (out : List ℕ) (l : Line)
     → sets out 0 (tidy l)

@@ -18,10 +18,10 @@ fn put_tone(out: &mut [u8], at: usize, code: u8, tone: u8, n: Numbers)
     ensures { λ r. ⌜ now (out .exit) ≡ sets (now (out .entry)) at (code ∷ operandBytes (pair .operands) (numbersOf tone n)) ⌝ }
 {
     out[at] = code;
-    bigendian::put_number(out, at + 1, 1, tone as u64);
+    out[at + 1] = tone;
     bigendian::put_number(out, at + 2, 2, n.noise as u64);
     bigendian::put_number(out, at + 4, 2, n.gain as u64);
-    bigendian::put_number(out, at + 6, 1, n.cap as u64);
+    out[at + 6] = n.cap;
     bigendian::put_number(out, at + 7, 8, n.mask);
 }
 
@@ -71,7 +71,7 @@ fn put_word(out: &mut [u8], at: usize, word: u8, map: u32) -> usize
         return at;
     }
     out[at] = 6;
-    bigendian::put_number(out, at + 1, 1, word as u64);
+    out[at + 1] = word;
     bigendian::put_number(out, at + 2, 4, map as u64);
     at + 6
 }

@@ -10,16 +10,10 @@ use Rattle.tidy.proofs.writer.put_tone.Tie as tie
 
 -- where the function began
 abbrev start : tie.After-put-number → tie.Start
-start c = c .before .before .before
+start c = c .before .before .before .before
 
 abbrev start-2 : tie.After-put-number2 → tie.Start
 start-2 c = start (c .before .before .before .before .before)
-
-abbrev start-3 : tie.After-put-number3 → tie.Start
-start-3 c = start-2 (c .before .before .before .before .before)
-
-abbrev start-4 : tie.After-put-number4 → tie.Start
-start-4 c = start-3 (c .before .before .before .before .before)
 
 -- the buffer keeps its length at each number
 kept : (c : tie.After-put-number) → length (c .put-number .last .0) ≡ length (start c .args .out .now)
@@ -28,17 +22,20 @@ kept c = c .put-number .kept .0 ∙ simp length-set
 kept-2 : (c : tie.After-put-number2) → length (c .put-number2 .last .0) ≡ length (start-2 c .args .out .now)
 kept-2 c = c .put-number2 .kept .0 ∙ kept (c .before .before .before .before .before)
 
-kept-3 : (c : tie.After-put-number3) → length (c .put-number3 .last .0) ≡ length (start-3 c .args .out .now)
-kept-3 c = c .put-number3 .kept .0 ∙ kept-2 (c .before .before .before .before .before)
-
-kept-4 : (c : tie.After-put-number4) → length (c .put-number4 .last .0) ≡ length (start-4 c .args .out .now)
-kept-4 c = c .put-number4 .kept .0 ∙ kept-3 (c .before .before .before .before .before)
-
 slice-write-out : tie.Need-slice-write-out
 slice-write-out c = search needs
 
+add-out : tie.Need-add-out
+add-out c = search needs
+
+slice-write-out-2 : tie.Need-slice-write-out-2
+slice-write-out-2 c = simp length-set (omega arith)
+
 add-put-number : tie.Need-add-put-number
 add-put-number c = search needs
+
+cast-put-number : tie.Need-cast-put-number
+cast-put-number c = search needs
 
 put-number-requires : tie.Need-put-number-requires
 put-number-requires c κs = search needs
@@ -46,73 +43,56 @@ put-number-requires c κs = search needs
 add-put-number-2 : tie.Need-add-put-number-2
 add-put-number-2 c = search needs
 
-cast-put-number : tie.Need-cast-put-number
-cast-put-number c = search needs
+cast-put-number-2 : tie.Need-cast-put-number-2
+cast-put-number-2 c = search needs
 
 put-number-requires-2 : tie.Need-put-number-requires-2
 put-number-requires-2 c κs = search needs
 
+add-out-2 : tie.Need-add-out-2
+add-out-2 c = search needs
+
+slice-write-out-3 : tie.Need-slice-write-out-3
+slice-write-out-3 c = rw (kept-2 (c .before .before)) (omega arith)
+
 add-put-number-3 : tie.Need-add-put-number-3
 add-put-number-3 c = search needs
-
-cast-put-number-2 : tie.Need-cast-put-number-2
-cast-put-number-2 c = search needs
 
 put-number-requires-3 : tie.Need-put-number-requires-3
 put-number-requires-3 c κs = search needs
 
-add-put-number-4 : tie.Need-add-put-number-4
-add-put-number-4 c = search needs
-
-cast-put-number-3 : tie.Need-cast-put-number-3
-cast-put-number-3 c = search needs
-
-put-number-requires-4 : tie.Need-put-number-requires-4
-put-number-requires-4 c κs = search needs
-
-add-put-number-5 : tie.Need-add-put-number-5
-add-put-number-5 c = search needs
-
-put-number-requires-5 : tie.Need-put-number-requires-5
-put-number-requires-5 c κs = search needs
-
 same-length : tie.Need-same-length
-same-length c = c .before .before .put-number5 .kept .0 ∙ kept-4 (c .before .before .before .before .before .before)
+same-length c = c .before .before .put-number3 .kept .0 ∙ simp length-set (kept-2 (c .before .before .before .before .before .before))
 
 returns : tie.Need-returns
 returns c =
-    let c₅ = c .before .before in
-    let c₄ = c₅ .before .before .before .before in
-    let c₃ = c₄ .before .before .before .before .before in
-    let c₂ = c₃ .before .before .before .before .before in
+    let c₃ = c .before .before in
+    let c₂ = c₃ .before .before .before .before in
     let c₁ = c₂ .before .before .before .before .before in
     let a = start c₁ .args in
     rw (
-      c₅ .put-number5 .ensures ∙ number-fits _ _ _ _ (rw (kept-4 c₄) (omega arith)),
-      c₄ .put-number4 .ensures ∙ number-fits _ _ _ _ (rw (kept-3 c₃) (omega arith)),
-      c₃ .put-number3 .ensures ∙ number-fits _ _ _ _ (rw (kept-2 c₂) (omega arith)),
+      c₃ .put-number3 .ensures ∙ number-fits _ _ _ _ (simp (length-set, kept-2 c₂) (omega arith)),
       c₂ .put-number2 .ensures ∙ number-fits _ _ _ _ (rw (kept c₁) (omega arith)),
       c₁ .put-number .ensures ∙ number-fits _ _ _ _ (simp length-set (omega arith)),
     )
-    (sym (tone-stores (a .out .now) (a .at) (a .code) (a .tone) (a .n)))
+    (sym (tone-stores (a .out .now) (a .at) (a .code) (a .tone) (a .n) (omega arith) (omega arith)))
 
 pub put-tone-spec : {M : Type 1} → statement M
 put-tone-spec =
     tie.close
     (tie.spec
     slice-write-out
+    add-out
+    slice-write-out-2
     add-put-number
+    cast-put-number
     put-number-requires
     add-put-number-2
-    cast-put-number
-    put-number-requires-2
-    add-put-number-3
     cast-put-number-2
+    put-number-requires-2
+    add-out-2
+    slice-write-out-3
+    add-put-number-3
     put-number-requires-3
-    add-put-number-4
-    cast-put-number-3
-    put-number-requires-4
-    add-put-number-5
-    put-number-requires-5
     same-length
     returns)

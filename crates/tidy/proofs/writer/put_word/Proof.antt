@@ -1,5 +1,5 @@
 -- `tidy::writer::put_word` meets its contract. Assumes nothing.
-use mathlib.Core.Path.{_≡_, refl, sym, _∙_}
+use mathlib.Core.Path.{refl, sym, _∙_}
 use Prim.Native.Nat.{_+_, _≤_}
 use native.Mathlib.Omega.{arith}
 use lib.ListN.{length, length-set}
@@ -14,14 +14,17 @@ use Rattle.tidy.proofs.writer.put_word.Tie as tie
 room : (c : tie.Else1) → c .before .before .args .at + 6 ≤ length (c .before .before .args .out .now)
 room c = omega (arith, length-word (c .before .before .args .word) (c .if1 .left))
 
-kept : (c : tie.After-put-number) → length (c .put-number .last .0) ≡ length (c .before .before .before .before .args .out .now)
-kept c = c .put-number .kept .0 ∙ simp length-set
-
 returns : tie.Need-returns
 returns c = rw (no-word (c .before .before .args .word) (c .if1 .taken)) (omega arith, refl)
 
 slice-write-out : tie.Need-slice-write-out
 slice-write-out c = omega (arith, room c)
+
+add-out : tie.Need-add-out
+add-out c = search needs
+
+slice-write-out-2 : tie.Need-slice-write-out-2
+slice-write-out-2 c = simp length-set (omega (arith, room c))
 
 add-put-number : tie.Need-add-put-number
 add-put-number c = search needs
@@ -29,32 +32,21 @@ add-put-number c = search needs
 put-number-requires : tie.Need-put-number-requires
 put-number-requires c κs = search needs
 
-add-put-number-2 : tie.Need-add-put-number-2
-add-put-number-2 c = search needs
-
-put-number-requires-2 : tie.Need-put-number-requires-2
-put-number-requires-2 c κs = search needs
-
 add-result : tie.Need-add-result
 add-result c = search needs
 
 same-length : tie.Need-same-length
-same-length c = c .before .before .put-number2 .kept .0 ∙ kept (c .before .before .before .before .before .before)
+same-length c = c .before .before .put-number .kept .0 ∙ simp length-set
 
 returns-2 : tie.Need-returns-2
 returns-2 c =
-    let c₂ = c .before .before in
-    let c₁ = c₂ .before .before .before .before in
+    let c₁ = c .before .before in
     let if1 = c₁ .before .before in
     let a = if1 .before .before .args in
     let some = if1 .if1 .left in (
       omega (arith, length-word (a .word) some),
-      rw (
-        c₂ .put-number2 .ensures ∙ number-fits _ _ _ _ (rw (kept c₁) (omega (arith, room if1))),
-        c₁ .put-number .ensures ∙ number-fits _ _ _ _ (simp length-set (omega (arith, room if1))),
-        some-word (a .word) some,
-      )
-          (sym (word-stores (a .out .now) (a .at) (a .word) (a .map))),
+      rw (c₁ .put-number .ensures ∙ number-fits _ _ _ _ (simp length-set (omega (arith, room if1))), some-word (a .word) some)
+          (sym (word-stores (a .out .now) (a .at) (a .word) (a .map) (omega arith))),
     )
 
 pub put-word-spec : {M : Type 1} → statement M
@@ -63,10 +55,10 @@ put-word-spec =
     (tie.spec
     returns
     slice-write-out
+    add-out
+    slice-write-out-2
     add-put-number
     put-number-requires
-    add-put-number-2
-    put-number-requires-2
     add-result
     same-length
     returns-2)
