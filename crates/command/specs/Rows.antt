@@ -152,8 +152,12 @@ decoded n described s at stage =
     cond (leb (length s) at) (record { command = Refused (SheetEnds (length s)); next = at })
     (decodedRow n described s at (withCode (allowed stage) (getD s at 0)))
 
--- The command at a place of any bytes. Refusal 1: 'The sheet has more than 4,096 bytes'; then no command is read.
+-- refusal 1: 'The sheet has more than 4,096 bytes'
+abbrev pub isTooLong : List ℕ → Bool
+isTooLong s = ltb 4096 (length s)
+
+-- The command at a place of any bytes: of a sheet that is too long no command is read.
 unfoldable pub commandAt : (n : ℕ) → (described : ℕ → Bool) → List ℕ → (at stage : ℕ) → Decoded
 unfolding decoded
 commandAt n described s at stage =
-    cond (ltb 4096 (length s)) (record { command = Refused SheetTooLong; next = at }) (decoded n described s at stage)
+    cond (isTooLong s) (record { command = Refused SheetTooLong; next = at }) (decoded n described s at stage)

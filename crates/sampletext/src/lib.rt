@@ -4,11 +4,11 @@
 // `(..)*n` what stands between, which has no such group in it. `++` is a byte that counts from 0, one
 // more each time, and `==` is that byte again. Any other character is passed over.
 ghost use Prim.Native.Nat.{ℕ, _+_, _≤_, _<_, min, max};
-ghost use mathlib.Core.Bool.{true};
+ghost use mathlib.Core.Bool.{true, false};
 ghost use mathlib.Core.Path.{_≡_};
 ghost use lib.ListN.{length, getD, drop};
 ghost use Rattle.io.specs.Counts.{Counts};
-ghost use Rattle.sampletext.specs.Text.{before, digitOf, spelled};
+ghost use Rattle.sampletext.specs.Text.{before, digitOf, spelled, SameBytes};
 
 // Room for a sheet, above the 4,096 bytes that a sheet may have.
 pub const ROOM: usize = 4200;
@@ -147,7 +147,7 @@ fn item_at(text: &[u8], at: usize, last: u8) -> Item
 }
 
 fn least(a: usize, b: usize) -> usize
-    ensures { λ r. ⌜ (r ≤ a) × (r ≤ b) ⌝ }
+    ensures { λ r. ⌜ (r ≤ a) × (r ≤ b) × (r ≡ min a b) ⌝ }
 {
     if a < b { a } else { b }
 }
@@ -256,13 +256,15 @@ pub fn wide(byte: u8) -> u64
 // A buffer for the text.
 pub fn text_buffer() -> [u8; 131072]
     ensures { λ r. ⌜ 131072 ≡ length r ⌝ }
+    ensures bytes { λ r. ⌜ ((i : ℕ) → i < 131072 → getD r i 0 ≡ 0) ⌝ }
 {
     [0; 131072]
 }
 
-// A buffer for a sheet or a table.
+// A buffer for a sheet or a table, every byte of it 0xa5.
 pub fn filled() -> [u8; ROOM]
     ensures { λ r. ⌜ 4200 ≡ length r ⌝ }
+    ensures bytes { λ r. ⌜ ((i : ℕ) → i < 4200 → getD r i 0 ≡ 165) ⌝ }
 {
     [FILL; ROOM]
 }
@@ -270,13 +272,15 @@ pub fn filled() -> [u8; ROOM]
 // A length as a number of a buffer's bytes.
 pub fn within(n: usize, buffer: &[u8]) -> usize
     ensures { λ r. ⌜ Counts r (now (buffer .entry)) ⌝ }
+    ensures number { λ r. ⌜ r ≡ min n (length (now (buffer .entry))) ⌝ }
 {
     least(n, buffer.len())
 }
 
 // Whether two buffers hold the same bytes.
 pub fn same(a: &[u8; ROOM], b: &[u8; ROOM]) -> bool
-    ensures { λ r. ⌜ (r ≡ true → (i : ℕ) → i < 4200 → getD (now (a .entry)) i 0 ≡ getD (now (b .entry)) i 0) ⌝ }
+    ensures yes { λ r. ⌜ (r ≡ true → SameBytes 4200 (now (a .entry)) (now (b .entry))) ⌝ }
+    ensures no { λ r. ⌜ (r ≡ false → SameBytes 4200 (now (a .entry)) (now (b .entry)) → ⊥) ⌝ }
 {
     let mut i = 0;
     while i < ROOM {

@@ -1,28 +1,24 @@
 -- How long the tidy form of a line is, and how much longer one more command makes it.
 -- Assumes nothing.
-use mathlib.Core.Bool.{Bool, true, false, cond}
-use mathlib.Core.List.{List, [], _∷_}
-use mathlib.Core.Path.{_≡_, refl, ap}
+use mathlib.Core.List.{List}
+use mathlib.Core.Path.{_≡_, ap}
 use Prim.Native.Nat.{ℕ, zero, suc, _+_, _≤_}
 use native.Mathlib.Decide.{ℕ-discrete}
 use native.Mathlib.Omega.{arith}
 use lib.Bits.{bitOr}
-use lib.Dec.{eqb}
 use lib.ListN.{length, getD, set, length-append}
 use lib.Seq.{getD-set-other}
 use Rattle.bigendian.proofs.Numbers.{length-bytes}
-use Rattle.line.specs.declared.Kind.{Kind}
-use Rattle.line.specs.declared.Kind.the-variants.{Pair, Single}
+use Rattle.bigendian.proofs.Stores.{length-none, length-next}
 use Rattle.line.specs.declared.Tone.{Tone}
-use Rattle.line.specs.declared.Slot.{Slot}
-use Rattle.line.specs.declared.Slot.the-variants.{Undescribed, Described}
+use Rattle.line.specs.declared.Slot.the-variants.{Described}
 use Rattle.line.specs.declared.Entry.{Entry}
 use Rattle.line.specs.declared.Line.{Line}
 use Rattle.line.specs.Line.{blank}
 use Rattle.command.specs.declared.Command.the-variants.{Describe, Silence}
-use Rattle.command.specs.Rows.{silence}
 use Rattle.sheet.specs.Reading.{effect}
-use Rattle.sheet.specs.Tidy.{written, kindBytes, slotBytes, toneBytes, wordBytes, mapBytes, tidy}
+use Rattle.sheet.specs.Tidy.{slotBytes, toneBytes, wordBytes, mapBytes, tidy}
+use Rattle.sheet.proofs.Parts.{length-slot-le, length-word-le, tones-grow, words-grow}
 
 -- ---- what the first entries of a list add up to, where each counts by its number and value
 
@@ -66,50 +62,28 @@ module _ {A : Type 0} (S : Adding A) where
 abbrev toneLength : ℕ → Entry → ℕ
 toneLength i e = length (slotBytes i (e .slot))
 
-tone-length : (i : ℕ) (e : Entry) → toneLength i e ≤ 15
-tone-length i e = by-slot (e .slot)
-  where
-    by-kind : (k : Kind) → length (kindBytes i k) ≤ 15
-    by-kind (Pair n) = simp (length-append, length-bytes) (omega arith)
-    by-kind (Single n) = simp (length-append, length-bytes) (omega arith)
-
-    by-slot : (slot : Slot) → length (slotBytes i slot) ≤ 15
-    by-slot Undescribed = omega arith
-    by-slot (Described t) = by-kind (t .kind)
-
-no-tones : (es : List Entry) → length (toneBytes 0 es) ≡ 0
-unfolding toneBytes
-no-tones es = refl
-
-more-tones : (n : ℕ) (es : List Entry) → length (toneBytes (suc n) es) ≡ length (toneBytes n es) + toneLength n (getD es n blank)
-unfolding toneBytes
-more-tones n es = length-append (toneBytes n es) (slotBytes n (getD es n blank .slot))
-
 abbrev tones : Adding Entry
-tones = record { absent = blank; one = toneLength; all = λ n es. length (toneBytes n es); none = no-tones; more = more-tones }
+tones = record {
+  absent = blank;
+  one = toneLength;
+  all = λ n es. length (toneBytes n es);
+  none = λ es. length-none (tones-grow es);
+  more = λ n es. length-next (tones-grow es) n;
+}
 
 -- ---- the maps
 
 abbrev mapLength : ℕ → ℕ → ℕ
 mapLength i m = length (wordBytes i m)
 
-map-length : (i m : ℕ) → mapLength i m ≤ 6
-map-length i m = by-zero (eqb m 0)
-  where
-    by-zero : (b : Bool) → length (cond b [] (written silence (i ∷ m ∷ []))) ≤ 6
-    by-zero true = omega arith
-    by-zero false = simp (length-append, length-bytes) (omega arith)
-
-no-maps : (ms : List ℕ) → length (mapBytes 0 ms) ≡ 0
-unfolding mapBytes
-no-maps ms = refl
-
-more-maps : (n : ℕ) (ms : List ℕ) → length (mapBytes (suc n) ms) ≡ length (mapBytes n ms) + mapLength n (getD ms n 0)
-unfolding mapBytes
-more-maps n ms = length-append (mapBytes n ms) (wordBytes n (getD ms n 0))
-
 abbrev maps : Adding ℕ
-maps = record { absent = 0; one = mapLength; all = λ n ms. length (mapBytes n ms); none = no-maps; more = more-maps }
+maps = record {
+  absent = 0;
+  one = mapLength;
+  all = λ n ms. length (mapBytes n ms);
+  none = λ ms. length-none (words-grow ms);
+  more = λ n ms. length-next (words-grow ms) n;
+}
 
 -- ---- the tidy form
 
@@ -133,7 +107,7 @@ tidy-describe l i t =
       arith,
       length-tidy l,
       length-tidy (effect (Describe i t) l),
-      set-adds tones 15 tone-length (l .size) (l .entries) i (record { slot = Described t }),
+      set-adds tones 15 (λ k e. length-slot-le k (e .slot)) (l .size) (l .entries) i (record { slot = Described t }),
     )
 
 pub tidy-silence : (l : Line) (word map : ℕ) → length (tidy (effect (Silence word map) l)) ≤ length (tidy l) + 6
@@ -142,5 +116,5 @@ tidy-silence l word map =
       arith,
       length-tidy l,
       length-tidy (effect (Silence word map) l),
-      set-adds maps 6 map-length 8 (l .maps) word (bitOr (getD (l .maps) word 0) map),
+      set-adds maps 6 length-word-le 8 (l .maps) word (bitOr (getD (l .maps) word 0) map),
     )

@@ -1,6 +1,7 @@
 pub mod Sound
 pub mod Turns
 pub mod Answers
+pub mod Parts
 pub mod Length
 pub mod Accepted
 pub mod Written

@@ -16,7 +16,7 @@ use Rattle.command.specs.declared.Refusal.the-variants.{SheetTooLong, SheetEnds
 use Rattle.command.specs.declared.Command.{Command}
 use Rattle.command.specs.declared.Command.the-variants.{Size, Gap, Budget, Describe, Silence, End, Refused}
 use Rattle.command.specs.declared.Decoded.{Decoded}
-use Rattle.command.specs.Rows.{decoded}
+use Rattle.command.specs.Rows.{decoded, isTooLong}
 use Rattle.sheet.specs.declared.Answer.{Answer}
 use Rattle.sheet.specs.declared.Answer.the-variants as answer
 use Rattle.sheet.specs.declared.Sheet.{Sheet}
@@ -94,7 +94,7 @@ readFrom (suc most) s at stage l = follow (afterDecoded (commandIn l s at stage)
 
 -- 'Refusal 1 is judged first, then 2 to 7 as the reading meets them.'
 unfoldable pub reading : List ℕ → Reading
-reading s = cond (ltb 4096 (length s)) (refused SheetTooLong) (readFrom (suc (length s)) s 0 0 emptyLine)
+reading s = cond (isTooLong s) (refused SheetTooLong) (readFrom (suc (length s)) s 0 0 emptyLine)
 
 -- the reading that `read_sheet` answers: a refusal has no line
 abbrev pub answerOf : Answer → Line → Reading

@@ -1,3 +1,2 @@
-pub mod Lengths
 pub mod Outcomes
 pub mod Writes

@@ -1,16 +1,16 @@
 -- `sampletext::same` meets its contract: between its turns the bytes passed are the same. Assumes nothing.
 use mathlib.Core.Bool.{true≢false}
-use mathlib.Core.Path.{_≡_, sym}
-use Prim.Native.Nat.{ℕ, _-_, _<_}
+use mathlib.Core.Path.{sym}
+use Prim.Native.Nat.{_-_}
 use native.Mathlib.Omega.{arith}
 use borrow.Author.Count.{below-more}
 use borrow.Author.Needs.{needs}
-use lib.ListN.{getD}
+use Rattle.sampletext.specs.Text.{SameBytes}
 use Rattle.sampletext.proofs.same.Statement.{statement}
 use Rattle.sampletext.proofs.same.Tie as tie
 
 abbrev Inv-loop : tie.InvT-loop
-Inv-loop a b i₀ i = (j : ℕ) → j < i → getD a j 0 ≡ getD b j 0
+Inv-loop a b i₀ i = SameBytes i a b
 
 abbrev μ-loop : tie.MeasureT-loop
 μ-loop a b i₀ i = 4200 - i
@@ -25,7 +25,7 @@ element-copy-out-if1-2 : tie.Need-element-copy-out-if1-2 Inv-loop μ-loop
 element-copy-out-if1-2 c = search needs
 
 returns : tie.Need-returns Inv-loop μ-loop
-returns c = λ e. absurd (true≢false (sym e))
+returns c = (λ e. absurd (true≢false (sym e)), λ e s. c .if1 .taken (s (c .before .before .before .before .loop .i) (omega arith)))
 
 add-i : tie.Need-add-i Inv-loop μ-loop
 add-i c = search needs
@@ -37,7 +37,7 @@ loop-again : tie.Need-loop-again Inv-loop μ-loop
 loop-again c = below-more _ _ (c .before .before .before .before .loop .inv) (c .if1 .left)
 
 returns-2 : tie.Need-returns-2 Inv-loop μ-loop
-returns-2 c = λ e i l. c .before .loop .inv i (omega (arith, c .loop-test .left))
+returns-2 c = (λ e i l. c .before .loop .inv i (omega (arith, c .loop-test .left)), λ e s. true≢false e)
 
 pub same-spec : {M : Type 1} → statement M
 same-spec =

@@ -9,7 +9,7 @@ least-requires : tie.Need-least-requires
 least-requires c κs = search needs
 
 returns : tie.Need-returns
-returns c = counts _ _ (omega arith)
+returns c = (counts _ _ (omega arith), c .least .ensures .2)
 
 pub within-spec : {M : Type 1} → statement M
 within-spec = tie.close (tie.spec least-requires returns)

@@ -1,6 +1,6 @@
 -- `tidy::slot_bytes` meets its contract. Assumes nothing.
 use mathlib.Core.Path.{refl, sym}
-use Rattle.tidy.proofs.Lengths.{length-described}
+use Rattle.sheet.proofs.Parts.{length-described}
 use borrow.Author.Needs.{needs}
 use Rattle.tidy.proofs.slot_bytes.Statement.{statement}
 use Rattle.tidy.proofs.slot_bytes.Tie as tie

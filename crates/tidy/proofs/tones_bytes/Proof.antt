@@ -7,7 +7,7 @@ use lib.ListN.{length, getD}
 use Rattle.line.specs.Line.{blank}
 use Rattle.sheet.specs.Tidy.{toneBytes}
 use Rattle.bigendian.proofs.Stores.{length-none, length-next}
-use Rattle.tidy.proofs.Lengths.{tones-grow, length-slot-le}
+use Rattle.sheet.proofs.Parts.{tones-grow, length-slot-le}
 use borrow.Author.Needs.{needs}
 use Rattle.tidy.proofs.tones_bytes.Statement.{statement}
 use Rattle.tidy.proofs.tones_bytes.Tie as tie

@@ -7,7 +7,7 @@ use Prim.Native.Nat.{_-_, _*_, _≤_}
 use lib.ListN.{length}
 use Rattle.sheet.specs.Tidy.{mapBytes}
 use Rattle.bigendian.proofs.Stores.{length-none, length-next}
-use Rattle.tidy.proofs.Lengths.{words-grow, length-word, length-no-word}
+use Rattle.sheet.proofs.Parts.{words-grow, length-word, length-no-word}
 use Rattle.tidy.proofs.words_bytes.Statement.{statement}
 use Rattle.tidy.proofs.words_bytes.Tie as tie
 

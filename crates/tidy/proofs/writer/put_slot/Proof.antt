@@ -5,7 +5,7 @@ use native.Mathlib.Omega.{arith}
 use Prim.Native.Nat.{_+_, _≤_}
 use lib.ListN.{length}
 use Rattle.sheet.specs.Tidy.{slotBytes}
-use Rattle.tidy.proofs.Lengths.{length-described}
+use Rattle.sheet.proofs.Parts.{length-described}
 use borrow.Author.Needs.{needs}
 use Rattle.tidy.proofs.writer.put_slot.Statement.{statement}
 use Rattle.tidy.proofs.writer.put_slot.Tie as tie

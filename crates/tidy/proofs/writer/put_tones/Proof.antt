@@ -4,7 +4,7 @@ use native.Mathlib.Omega.{arith}
 use Prim.Native.Nat.{_-_, _≤_}
 use Rattle.bigendian.proofs.Stores.{Written, written-none, written-room, written-next}
 use Rattle.sheet.specs.Tidy.{toneBytes}
-use Rattle.tidy.proofs.Lengths.{tones-grow}
+use Rattle.sheet.proofs.Parts.{tones-grow}
 use Rattle.tidy.proofs.writer.put_tones.Statement.{statement}
 use Rattle.tidy.proofs.writer.put_tones.Tie as tie
 

@@ -4,7 +4,7 @@ use native.Mathlib.Omega.{arith}
 use Prim.Native.Nat.{_-_, _≤_}
 use Rattle.bigendian.proofs.Stores.{Written, written-none, written-room, written-next}
 use Rattle.sheet.specs.Tidy.{mapBytes}
-use Rattle.tidy.proofs.Lengths.{words-grow}
+use Rattle.sheet.proofs.Parts.{words-grow}
 use Rattle.tidy.proofs.writer.put_words.Statement.{statement}
 use Rattle.tidy.proofs.writer.put_words.Tie as tie
 

@@ -1,7 +1,8 @@
--- How long the tidy form and its parts are. Assumes nothing.
+-- The parts of the tidy form: how long each is, and how the lists of them grow. Assumes nothing.
 use mathlib.Core.Path.{_≡_, refl, ap, _∙_}
 use mathlib.Core.List.{List, [], _∷_}
 use Prim.Native.Nat.{ℕ, _≤_}
+use native.Mathlib.Decide.{ℕ-discrete}
 use native.Mathlib.Omega.{arith}
 use borrow.Author.Tests.{eq-eqb, ne-eqb}
 use lib.ListN.{length, getD, length-append}
@@ -41,6 +42,13 @@ length-word word {map} n = ap length (some-word word n) ∙ simp (length-append,
 
 pub length-no-word : (word : ℕ) {map : ℕ} → map ≡ 0 → length (wordBytes word map) ≡ 0
 length-no-word word e = ap length (no-word word e)
+
+pub length-word-le : (word map : ℕ) → length (wordBytes word map) ≤ 6
+length-word-le word map = by-zero (ℕ-discrete map 0)
+  where
+    by-zero : Dec (map ≡ 0) → length (wordBytes word map) ≤ 6
+    by-zero (yes e) = omega (arith, length-no-word word e)
+    by-zero (no n) = omega (arith, length-word word n)
 
 -- The tones and the words: lists that grow by one part at a time.
 
