@@ -49,6 +49,11 @@ pub record ArraysInRange (count : ℕ) (A : Arrays) : Type 0 where
 pub record Under (count : ℕ) (A : Arrays) (bits : List ℕ) : Type 0 where
   pub under : (i : ℕ) → i < count → getD bits i 0 ≤ limitAt A i
 
+-- the ranges in which costs and doublings give the powers of a table's bits
+pub record PowersInRange (count : ℕ) (costs doublings bits : List ℕ) : Type 0 where
+  pub cost-high : (i : ℕ) → i < count → getD costs i 0 < 2 ^ 24
+  pub shift-high : (i : ℕ) → i < count → getD doublings i 0 * getD bits i 0 ≤ 15
+
 -- The arrays describe tones T: their number, their limits, and their powers within the limits.
 pub record Describes (count : ℕ) (A : Arrays) (T : Tones) : Type 0 where
   pub same-count : T .count ≡ count
