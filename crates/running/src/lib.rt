@@ -45,13 +45,20 @@ impl Running {
         doublings: &[u8; TONES],
         free: &mut [u64; TONES],
         held: &mut [u64; TONES],
-    ) -> Running
-    {
+    ) -> Running {
         let tone = f.tone;
         let bits = self.bits[tone] + 1;
         self.bits[tone] = bits;
         self.power += f.size;
-        ranks::put_ranks(tone, limits[tone], costs[tone], doublings[tone], bits, free, held);
+        ranks::put_ranks(
+            tone,
+            limits[tone],
+            costs[tone],
+            doublings[tone],
+            bits,
+            free,
+            held,
+        );
         self
     }
 
@@ -64,13 +71,20 @@ impl Running {
         doublings: &[u8; TONES],
         free: &mut [u64; TONES],
         held: &mut [u64; TONES],
-    ) -> Running
-    {
+    ) -> Running {
         let tone = h.tone;
         let bits = self.bits[tone] - 1;
         self.bits[tone] = bits;
         self.power -= h.size;
-        ranks::put_ranks(tone, limits[tone], costs[tone], doublings[tone], bits, free, held);
+        ranks::put_ranks(
+            tone,
+            limits[tone],
+            costs[tone],
+            doublings[tone],
+            bits,
+            free,
+            held,
+        );
         self
     }
 
@@ -142,7 +156,16 @@ pub fn run(
     let mut running = start;
     let mut moves: u32 = 0;
     while moves < most {
-        let stepped = running.step(rule, budget, count, limits, costs, doublings, &mut free, &mut held);
+        let stepped = running.step(
+            rule,
+            budget,
+            count,
+            limits,
+            costs,
+            doublings,
+            &mut free,
+            &mut held,
+        );
         let next = stepped.running;
         running = next;
         let progress = stepped.progress;

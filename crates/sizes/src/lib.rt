@@ -6,7 +6,7 @@ pub const TONES: usize = 256;
 // The words of the silence maps, and the tones of a word.
 pub const WORDS: usize = 8;
 
-pub const WORD_TONES: u8 = 32;
+pub const WORD_TONES: u32 = 32;
 
 // The longest sheet, in bytes.
 pub const SHEET_BYTES: usize = 4096;

@@ -5,16 +5,14 @@ use mathlib.Core.List.{List, [], _∷_, _++_}
 use Prim.Native.Nat.{ℕ, zero, suc}
 use lib.Dec.{eqb}
 use lib.ListN.{getD}
+use Rattle.sizes.specs.Sizes.{wordsOf}
 use Rattle.bigendian.specs.Number.{bytes}
 use Rattle.line.specs.declared.Numbers.{Numbers}
-use Rattle.line.specs.declared.Kind.{Kind}
-use Rattle.line.specs.declared.Kind.the-variants.{Pair, Single}
-use Rattle.line.specs.declared.Slot.{Slot}
-use Rattle.line.specs.declared.Slot.the-variants.{Undescribed, Described}
-use Rattle.line.specs.declared.Entry.{Entry}
-use Rattle.line.specs.declared.Line.{Line}
-use Rattle.line.specs.Line.{blank}
-use Rattle.command.specs.Rows.{Row, Operand, size, gap, budget, pair, single, silence, end}
+use Rattle.line.specs.declared.Tone.{Tone}
+use Rattle.line.specs.Tone.{carried, isSingle}
+use Rattle.line.specs.Line.{Entry, undescribed, described, Line}
+use Rattle.command.specs.Rows.{Row, Operand, gap, budget, end}
+use Rattle.command.specs.Codes.{sizeRow, toneRow, silenceRow}
 
 -- A command as bytes: its own, then its operands' values, each in its width.
 abbrev pub operandBytes : List Operand → (values : List ℕ) → List ℕ
@@ -25,25 +23,21 @@ operandBytes (o ∷ os) (v ∷ vs) = bytes (o .width) v ++ operandBytes os vs
 abbrev pub written : Row → (values : List ℕ) → List ℕ
 written r values = r .code ∷ operandBytes (r .operands) values
 
-abbrev pub numbersOf : (tone : ℕ) → Numbers → List ℕ
-numbersOf tone n = tone ∷ n .noise ∷ n .gain ∷ n .cap ∷ n .mask ∷ []
-
-abbrev pub kindBytes : (tone : ℕ) → Kind → List ℕ
-kindBytes tone (Pair n) = written pair (numbersOf tone n)
-kindBytes tone (Single n) = written single (numbersOf tone n)
-
-abbrev pub slotBytes : (tone : ℕ) → Slot → List ℕ
-slotBytes tone Undescribed = []
-slotBytes tone (Described t) = kindBytes tone (t .kind)
+abbrev pub numbersOf : (i : ℕ) → Numbers → List ℕ
+numbersOf i n = i ∷ n .noise ∷ n .gain ∷ n .cap ∷ n .mask ∷ []
 
 -- 'the described tones in rising number'; a silenced tone stays described
+abbrev pub entryBytes : (i : ℕ) → Entry → List ℕ
+entryBytes i undescribed = []
+entryBytes i (described t) = written (toneRow (isSingle (t .kind))) (numbersOf i (carried t))
+
 unfoldable pub toneBytes : (count : ℕ) → List Entry → List ℕ
 toneBytes zero entries = []
-toneBytes (suc n) entries = toneBytes n entries ++ slotBytes n (getD entries n blank .slot)
+toneBytes (suc n) entries = toneBytes n entries ++ entryBytes n (getD entries n undescribed)
 
 -- 'for each word in rising order one 06 if its joined map is not zero'
 abbrev pub wordBytes : (word map : ℕ) → List ℕ
-wordBytes word map = cond (eqb map 0) [] (written silence (word ∷ map ∷ []))
+wordBytes word map = cond (eqb map 0) [] (written silenceRow (word ∷ map ∷ []))
 
 unfoldable pub mapBytes : (count : ℕ) → (maps : List ℕ) → List ℕ
 mapBytes zero maps = []
@@ -53,5 +47,5 @@ mapBytes (suc n) maps = mapBytes n maps ++ wordBytes n (getD maps n 0)
 unfoldable pub tidy : Line → List ℕ
 unfolding toneBytes mapBytes
 tidy l =
-    written size (l .size ∷ []) ++ written gap (l .gap ∷ []) ++ written budget (l .budget ∷ []) ++ toneBytes (l .size) (l .entries)
-    ++ mapBytes 8 (l .maps) ++ written end []
+    written sizeRow (l .size ∷ []) ++ written gap (l .gap ∷ []) ++ written budget (l .budget ∷ []) ++ toneBytes (l .size) (l .entries)
+    ++ mapBytes (wordsOf (l .size)) (l .maps) ++ written end []

@@ -1,0 +1,6 @@
+pub mod Parts
+pub mod Length
+pub mod Written
+pub mod RoundTrip
+pub mod Tidied
+pub mod Examples
