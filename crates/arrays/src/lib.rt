@@ -1,35 +1,87 @@
-// The tones of a line as arrays of numbers, so that the runs have one path for both kinds.
-ghost use Rattle.line.specs.Line.{LineInRange};
-ghost use Rattle.flatten.specs.Arrays.{Holds};
-use line::Line;
+// The tones of a sheet as arrays of numbers, so that the runs have one path for both kinds. Each tone is decoded from its place in the
+// sheet, once.
+ghost use mathlib.Core.Path.{_≡_};
+ghost use Rattle.lists.specs.Lent.{before, after};
+ghost use Rattle.line.specs.Tone.{Gap};
+ghost use Rattle.line.specs.Line.{EntryInRange, entrySteps};
+ghost use Rattle.line.specs.Arrays.{arrays};
+ghost use Rattle.command.specs.Places.{entryAt};
+ghost use Rattle.sheet.specs.Reading.{reading};
+ghost use Rattle.sheet.specs.Index.{Indexed};
+ghost use Rattle.arrays.specs.Tones.{HoldsLineOf, TonesOf};
+use command::Header;
+use line::Steps;
+use sheet::Read;
+use sizes::TONES;
+use sizes::WORDS;
 
-// Limits, costs, and by how many doublings a step grows from bit to bit.
-pub struct Arrays {
-    pub limits: [u8; 256],
-    pub costs: [u64; 256],
-    pub doublings: [u8; 256],
+// What the runs need of the tone whose command stands at a place: nothing where none does, or where it is silenced.
+fn steps_at(s: &[u8], gap: u16, place: u16, silenced: bool) -> Steps
+    requires { ⌜ Gap gap ⌝ }
+    requires { ⌜ EntryInRange (entryAt (now s) place) ⌝ }
+    ensures { λ r. ⌜ r ≡ entrySteps gap (entryAt (before s) place) «silenced» ⌝ }
+{
+    let none = Steps {
+        limit: 0,
+        cost: 0,
+        doublings: 0,
+    };
+    if silenced {
+        return none;
+    }
+    if place < 1 {
+        return none;
+    }
+    let tone = command::tone_at(s, place);
+    line::steps_of(gap, tone)
 }
 
-// The arrays of a line.
-pub fn flatten(line: Line) -> Arrays
-    requires { ⌜ LineInRange line ⌝ }
-    ensures { λ r. ⌜ Holds line r ⌝ }
+// The arrays of the line that an index of the sheet stands for.
+fn fill_arrays(
+    s: &[u8],
+    header: Header,
+    places: &[u16; TONES],
+    maps: &[u32; WORDS],
+    limits: &mut [u8; TONES],
+    costs: &mut [u32; TONES],
+    doublings: &mut [u8; TONES],
+)
+    requires { ⌜ Indexed (now s) header (now places) (now maps) ⌝ }
+    ensures { λ r. ⌜ HoldsLineOf (reading (before s)) (arrays (after limits) (after costs) (after doublings)) ⌝ }
 {
-    let mut arrays = Arrays {
-        limits: [0; 256],
-        costs: [0; 256],
-        doublings: [0; 256],
-    };
-    let maps = line.maps;
+    *limits = [0; TONES];
+    *costs = [0; TONES];
+    *doublings = [0; TONES];
     let mut i: usize = 0;
-    while i < line.size as usize {
-        let entry = line.entries[i];
+    while i < header.size as usize {
         let tone = i as u8;
-        let steps = line::steps_of(line.gap, entry, silence::is_silenced(&maps, tone));
-        arrays.limits[i] = steps.limit;
-        arrays.costs[i] = steps.cost;
-        arrays.doublings[i] = steps.doublings;
+        let silenced = silence::is_silenced(maps, tone);
+        let steps = steps_at(s, header.gap, places[i], silenced);
+        limits[i] = steps.limit;
+        costs[i] = steps.cost;
+        doublings[i] = steps.doublings;
         i += 1;
     }
-    arrays
+}
+
+// Reads a sheet into the arrays of its tones: its header, or the first refusal that it meets. After a refusal the arrays are as they
+// were.
+pub fn read_tones(
+    s: &[u8],
+    limits: &mut [u8; TONES],
+    costs: &mut [u32; TONES],
+    doublings: &mut [u8; TONES],
+) -> Read
+    ensures { λ r. ⌜ TonesOf r (arrays (before limits) (before costs) (before doublings)) (arrays (after limits) (after costs) (after doublings)) (reading (before s)) ⌝ }
+{
+    let mut places: [u16; TONES] = [0; TONES];
+    let mut maps: [u32; WORDS] = [0; WORDS];
+    let read = sheet::read(s, &mut places, &mut maps);
+    match read {
+        Read::Refused(refusal) => Read::Refused(refusal),
+        Read::Accepted(header) => {
+            fill_arrays(s, header, &places, &maps, limits, costs, doublings);
+            Read::Accepted(header)
+        }
+    }
 }

@@ -16,6 +16,9 @@ pub const PAIR_CAP: u8 = 15;
 
 pub const SINGLE_CAP: u8 = 7;
 
+// The most bits of a line: the most tones, each of the largest cap.
+pub const MOST_BITS: u32 = TONES as u32 * PAIR_CAP as u32;
+
 // The largest budget and the largest mask: 2^47.
 pub const MOST_POWER: u64 = 0x8000_0000_0000;
 
