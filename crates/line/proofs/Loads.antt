@@ -4,7 +4,7 @@ use mathlib.Core.Path.{_≡_, ap, _∙_}
 use mathlib.Core.Bool.{Bool, true, false}
 use Prim.Native.Nat.{ℕ, suc, _+_, _≤_, _<_}
 use native.Mathlib.Omega.{arith}
-use lib.ListN.{getD, getD-replicate}
+use lib.ListN.{getD-replicate, length-replicate}
 use Rattle.silence.specs.Map.{silenced}
 use Rattle.steps.specs.Tones.{Rising, Table, _!_, noBits, KeepsLimits, KeepsBudget}
 use Rattle.steps.specs.Runs.{setBits}
@@ -69,6 +69,9 @@ module _ (l : Line) (I : LineInRange l) where
       none : (i : ℕ) → i < l .size → entryPower (l .gap) (entryOf l i) (noBits (tones l) ! i) ≡ 0
       none i il =
           ap (entryPower (l .gap) (entryOf l i)) (getD-replicate {A = ℕ} (l .size) i 0 0 il) ∙ entry-no-bits (l .gap) (entryOf l i)
+
+  pub no-bits-keep : KeepsLimits (tones l) (noBits (tones l))
+  no-bits-keep = record { sized = length-replicate (l .size) 0; under = λ i il. omega (arith, getD-replicate {A = ℕ} (l .size) i 0 0 il) }
 
   -- Demand 3, of every line in range and every starting table that keeps the limits.
   pub line-demand-3 : (t : Table) → KeepsLimits (tones l) t → Demand3 (tones l) (l .budget) t

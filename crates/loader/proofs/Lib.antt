@@ -1,3 +1,3 @@
-pub mod SameLoading
+pub mod Promises
 pub mod Written
 pub mod Outcomes

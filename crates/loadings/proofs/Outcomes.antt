@@ -1,104 +1,119 @@
--- The outcomes of the loadings of a line: which one each test of the code leads to, with its answer and its buffer.
+-- The outcomes of the loadings of tones: which one each test of the code leads to, with its answer and its buffer.
 -- Assumes nothing.
 use mathlib.Core.List.{List, _++_}
 use mathlib.Core.Logic.{if-pos, if-neg}
 use mathlib.Core.Option.{none, some}
-use mathlib.Core.Path.{_≡_, ap, _∙_}
+use mathlib.Core.Path.{_≡_, ap, sym, _∙_}
 use Prim.Native.Nat.{ℕ, _*_, _≤_, _<_}
 use native.Mathlib.Decide.{ℕ-discrete}
+use native.Mathlib.Omega.{arith}
 use borrow.Author.Tests.{lt-ltb, le-ltb, eq-eqb, ne-eqb}
 use lib.ListN.{length, drop, getD}
-use Rattle.steps.specs.Tones.{Table, sum, noBits, totalBits}
+use lib.Seq.{sets}
+use Rattle.sizes.specs.Sizes.{bytesATone}
+use Rattle.steps.specs.Tones.{Tones, Table, sum, noBits, totalBits}
 use Rattle.steps.specs.Runs.{Ran, addStep, refitStep, run, mostBits, carrying}
-use Rattle.line.specs.declared.Line.{Line}
-use Rattle.line.specs.Line.{LineInRange, tones}
+use Rattle.line.specs.Arrays.{Arrays, StandsFor}
+use Rattle.line.proofs.Arrays.{stands-bits}
 use Rattle.command.specs.declared.Refusal.{Refusal}
 use Rattle.command.specs.declared.Refusal.the-variants.{DestinationTooSmall, StartLengthWrong, StartAboveLimit, TargetNotCarried}
-use Rattle.loading.specs.declared.Running.{Running}
-use Rattle.starts.specs.Starts.{firstAbove, Stands}
-use Rattle.tables.specs.Tables.{tableBytes}
-use Rattle.lineruns.proofs.Standing.{stands-bits}
-use Rattle.lineloads.specs.declared.Loaded.{Loaded}
-use Rattle.lineloads.specs.declared.Loaded.the-variants as load
-use Rattle.lineloads.specs.declared.Refitted.{Refitted}
-use Rattle.lineloads.specs.declared.Refitted.the-variants as re-fit
-use Rattle.lineloads.specs.Loads.{Loading, loaded, turned-down, mostOn, onTarget, targetOn, loadAnswer, afterLoading}
-use Rattle.lineloads.specs.Refits.{refitUpTo, refitAnswer}
-use Rattle.lineloads.proofs.Runs.{target-run}
+use Rattle.running.specs.declared.Running.{Running}
+use Rattle.running.specs.Running.{Stands}
+use Rattle.starts.specs.Starts.{firstAbove}
+use Rattle.tables.specs.Tables.{tableBytes, WritesTable}
+use Rattle.tables.proofs.Entries.{table-written}
+use Rattle.loadings.specs.declared.Loaded.the-variants as load
+use Rattle.loadings.specs.declared.Refitted.the-variants as re-fit
+use Rattle.loadings.specs.Loads.{Loading, loaded, turned-down, mostOn, onTarget, targetOn, Loadable, LoadsAs, loadAnswer, afterLoading}
+use Rattle.loadings.specs.Refits.{refitUpTo, RefitsAs}
+use Rattle.loadings.proofs.Runs.{target-run}
 
 -- ---- answer and buffer of an outcome
 
--- what a loading, and what a re-fit, has to show of its answer and of the buffer
-abbrev pub LoadEnds : Loading → (old after : List ℕ) → Loaded → Type 0
-LoadEnds x old after r = (r ≡ loadAnswer x) × (after ≡ afterLoading x old)
+module _ (on : (room : ℕ) → Loading) (old : List ℕ) where
+  pub load-refused : {r : Refusal} → on (length old) ≡ turned-down r → LoadsAs (load.Refused r) old old on
+  load-refused e = (simp e, simp e)
 
-abbrev pub RefitEnds : Loading → (old after : List ℕ) → Refitted → Type 0
-RefitEnds x old after r = (r ≡ refitAnswer x) × (after ≡ afterLoading x old)
-
-pub load-refused : {x : Loading} {r : Refusal} (old : List ℕ) → x ≡ turned-down r → LoadEnds x old old (load.Refused r)
-load-refused old e = (simp e, simp e)
-
-pub refit-refused : {x : Loading} {r : Refusal} (old : List ℕ) → x ≡ turned-down r → RefitEnds x old old (re-fit.Refused r)
-refit-refused old e = (simp e, simp e)
+  pub refit-refused : {r : Refusal} → on (length old) ≡ turned-down r → RefitsAs (re-fit.Refused r) old old on
+  refit-refused e = (simp e, simp e)
 
 -- the running table of a run, its total bits added up, and the buffer that it was written to
-pub record Wrote (l : Line) (r : Running) (t : Table) (bits : ℕ) (old after : List ℕ) : Type 0 where
-  pub stands : Stands l r t
-  pub added-up : bits ≡ sum (l .size) (λ i. getD (r .bits) i 0)
-  pub written : after ≡ tableBytes (tones l) t ++ drop (9 * l .size) old
+pub record Wrote (count : ℕ) (A : Arrays) (T : Tones) (r : Running) (t : Table) (bits : ℕ) (old new : List ℕ) : Type 0 where
+  pub stands : Stands count A r T t
+  pub added-up : bits ≡ sum count (λ i. getD (r .bits) i 0)
+  pub room : bytesATone * count ≤ length old
+  pub written : WritesTable count A (r .bits) old new
 
-module _ {x : Loading} {l : Line} {ran : Ran} (e : x ≡ loaded l ran) {r : Running} {bits : ℕ} {old after : List ℕ} (W : Wrote l r (ran .table) bits old after) where
-  total : bits ≡ totalBits (tones l) (ran .table)
+module _ {count : ℕ} {A : Arrays} {T : Tones} {ran : Ran} {r : Running} {bits : ℕ} {old new : List ℕ} (W : Wrote count A T r (ran .table) bits old new)
+    (on : (room : ℕ) → Loading) (e : on (length old) ≡ loaded T ran) where
+  total : bits ≡ totalBits T (ran .table)
   total = W .added-up ∙ stands-bits (W .stands)
 
-  pub load-done : LoadEnds x old after (load.Totals bits (r .power))
-  load-done = (simp (e, total, W .stands .power), simp (e, W .written))
+  buffer : new ≡ tableBytes T (ran .table) ++ drop (bytesATone * T .count) old
+  buffer =
+      W .written (r .power) T (ran .table) (W .stands)
+      ∙ table-written T (ran .table) old (omega (arith, W .room, W .stands .describes .same-count))
 
-  pub refit-done : {moves : ℕ} → moves ≡ ran .moves → RefitEnds x old after (re-fit.Totals bits (r .power) moves)
-  refit-done m = (simp (e, total, W .stands .power, m), simp (e, W .written))
+  pub load-done : LoadsAs (load.Totals bits (r .power)) old new on
+  load-done = (simp (e, total, W .stands .same-power), simp e buffer)
 
--- ---- which outcome it is
+  pub refit-done : {moves : ℕ} → moves ≡ ran .moves → RefitsAs (re-fit.Totals bits (r .power) moves) old new on
+  refit-done m = (simp (e, total, W .stands .same-power, m), simp e buffer)
 
-module _ (l : Line) {room : ℕ} where
-  pub most-short : room < 9 * l .size → mostOn l room ≡ turned-down DestinationTooSmall
+-- ---- which outcome it is, for so many tones in a buffer of so many bytes
+
+module _ {count : ℕ} {A : Arrays} {T : Tones} (L : Loadable count A T) (budget : ℕ) {room : ℕ} where
+  short : room < bytesATone * count → room < bytesATone * T .count
+  short h = omega (arith, L .describes .same-count)
+
+  fits : bytesATone * count ≤ room → bytesATone * T .count ≤ room
+  fits h = omega (arith, L .describes .same-count)
+
+  pub most-short : room < bytesATone * count → mostOn T budget room ≡ turned-down DestinationTooSmall
   unfolding mostOn
-  most-short h = simp (lt-ltb room (9 * l .size) h)
+  most-short h = simp (lt-ltb room (bytesATone * T .count) (short h))
 
-  pub most-fits : 9 * l .size ≤ room → mostOn l room ≡ loaded l (mostBits (tones l) (l .budget))
+  pub most-fits : bytesATone * count ≤ room → mostOn T budget room ≡ loaded T (mostBits T budget)
   unfolding mostOn
-  most-fits h = simp (le-ltb room (9 * l .size) h)
+  most-fits h = simp (le-ltb room (bytesATone * T .count) (fits h))
 
   module _ (target : ℕ) where
-    pub target-short : room < 9 * l .size → targetOn l target room ≡ turned-down DestinationTooSmall
+    pub target-short : room < bytesATone * count → targetOn T budget target room ≡ turned-down DestinationTooSmall
     unfolding targetOn
-    target-short h = simp (lt-ltb room (9 * l .size) h)
+    target-short h = simp (lt-ltb room (bytesATone * T .count) (short h))
 
-    module _ (I : LineInRange l) (h : 9 * l .size ≤ room) {t : Table} (q : run (addStep (tones l) (l .budget)) target (noBits (tones l)) .table ≡ t) where
-      aims : targetOn l target room ≡ onTarget l (carrying (tones l) target t)
+    module _ (h : bytesATone * count ≤ room) {t : Table} (q : run (addStep T budget) target (noBits T) .table ≡ t) where
+      aims : targetOn T budget target room ≡ onTarget T (carrying T target t)
       unfolding targetOn
-      aims = simp (le-ltb room (9 * l .size) h, target-run l I target, q)
+      aims = simp (le-ltb room (bytesATone * T .count) (fits h), target-run L budget target, q)
 
-      pub target-missed : ¬ (totalBits (tones l) t ≡ target) → targetOn l target room ≡ turned-down TargetNotCarried
+      pub target-missed : ¬ (totalBits T t ≡ target) → targetOn T budget target room ≡ turned-down TargetNotCarried
       unfolding carrying
-      target-missed m = aims ∙ ap (onTarget l) (if-neg (ℕ-discrete (totalBits (tones l) t) target) m (some t) none)
+      target-missed m = aims ∙ ap (onTarget T) (if-neg (ℕ-discrete (totalBits T t) target) m (some t) none)
 
-      pub target-carried : totalBits (tones l) t ≡ target → targetOn l target room ≡ loaded l (record { table = t; moves = 0 })
+      pub target-carried : totalBits T t ≡ target → targetOn T budget target room ≡ loaded T (record { table = t; moves = 0 })
       unfolding carrying
-      target-carried c = aims ∙ ap (onTarget l) (if-pos (ℕ-discrete (totalBits (tones l) t) target) c (some t) none)
+      target-carried c = aims ∙ ap (onTarget T) (if-pos (ℕ-discrete (totalBits T t) target) c (some t) none)
 
   module _ (most : ℕ) (start : List ℕ) where
-    pub refit-short : room < 9 * l .size → refitUpTo most l start room ≡ turned-down DestinationTooSmall
+    pub refit-short : room < bytesATone * count → refitUpTo most T budget start room ≡ turned-down DestinationTooSmall
     unfolding refitUpTo
-    refit-short h = simp (lt-ltb room (9 * l .size) h)
+    refit-short h = simp (lt-ltb room (bytesATone * T .count) (short h))
 
-    pub refit-length : 9 * l .size ≤ room → ¬ (length start ≡ l .size) → refitUpTo most l start room ≡ turned-down StartLengthWrong
-    unfolding refitUpTo
-    refit-length h m = simp (le-ltb room (9 * l .size) h, ne-eqb (length start) (l .size) m)
+    module _ (h : bytesATone * count ≤ room) where
+      pub refit-length : ¬ (length start ≡ count) → refitUpTo most T budget start room ≡ turned-down StartLengthWrong
+      unfolding refitUpTo
+      refit-length m =
+          simp (le-ltb room (bytesATone * T .count) (fits h), ne-eqb (length start) (T .count) (λ e. m (omega (arith, L .describes .same-count))))
 
-    pub refit-above : 9 * l .size ≤ room → length start ≡ l .size → {i : ℕ} → firstAbove (tones l) start (l .size) ≡ some i → refitUpTo most l start room ≡ turned-down (StartAboveLimit i)
-    unfolding refitUpTo
-    refit-above h m a = simp (le-ltb room (9 * l .size) h, eq-eqb (length start) (l .size) m, a)
+      module _ (m : length start ≡ count) where
+        same : length start ≡ T .count
+        same = omega (arith, L .describes .same-count)
 
-    pub refit-fits : 9 * l .size ≤ room → length start ≡ l .size → firstAbove (tones l) start (l .size) ≡ none → refitUpTo most l start room ≡ loaded l (run (refitStep (tones l) (l .budget)) most start)
-    unfolding refitUpTo
-    refit-fits h m a = simp (le-ltb room (9 * l .size) h, eq-eqb (length start) (l .size) m, a)
+        pub refit-above : {i : ℕ} → firstAbove T start (T .count) ≡ some i → refitUpTo most T budget start room ≡ turned-down (StartAboveLimit i)
+        unfolding refitUpTo
+        refit-above a = simp (le-ltb room (bytesATone * T .count) (fits h), eq-eqb (length start) (T .count) same, a)
+
+        pub refit-fits : firstAbove T start (T .count) ≡ none → refitUpTo most T budget start room ≡ loaded T (run (refitStep T budget) most start)
+        unfolding refitUpTo
+        refit-fits a = simp (le-ltb room (bytesATone * T .count) (fits h), eq-eqb (length start) (T .count) same, a)

@@ -1,36 +1,84 @@
--- The moves that the code allows a run are enough, and one of them is the single step; and what the last step of an adding run answers.
+-- The runs of loadable tones: their sums fit, the moves that the code allows are enough, one of them is the single step, and what the last
+-- step of an adding run answers.
 -- Assumes nothing.
-use mathlib.Core.Path.{_≡_, refl}
-use Prim.Native.Nat.{ℕ, _≤_, _<_}
+use mathlib.Core.Path.{_≡_, refl, sym, ap, _∙_}
+use Prim.Native.Nat.{ℕ, zero, suc, _+_, _*_, _^_, _≤_, _<_}
 use native.Mathlib.Decide.{decLt}
+use native.Mathlib.Nat.{lt-of-lt-of-le, mul-le-mul, mul-le-mul-left, le-trans}
 use native.Mathlib.Omega.{arith}
 use borrow.Author.Tests.{lt-ltb, le-ltb}
-use Rattle.steps.specs.Tones.{Table, noBits, totalBits, KeepsLimits}
+use lib.Pow.{pow-mono, shl-lt}
+use Rattle.sizes.specs.Sizes.{mostTones, pairCap, mostBitsOfAll}
+use Rattle.steps.specs.Tones.{Tones, Table, _!_, noBits, totalBits, totalPower, sumOfLimits, KeepsLimits, KeepsBudget}
 use Rattle.steps.specs.Runs.{Answer, moved, finished, addStep, refitStep, Ran, follow, run, mostBits, refitRun, carrying, setBits}
 use Rattle.steps.proofs.Enough.{moves-at-most, most-bits-enough, refit-enough, set-bits-adds, bits-are-moves}
-use Rattle.line.specs.declared.Line.{Line}
-use Rattle.line.specs.Line.{LineInRange, tones}
-use Rattle.line.proofs.Loads.{line-rising, no-bits-fit}
-use Rattle.line.proofs.Masks.{limits-high}
-use Rattle.loading.specs.declared.Answer.the-variants.{Moved, Finished}
-use Rattle.loading.specs.Running.{answerAfter}
-use Rattle.lineloads.specs.Refits.{stepped}
+use Rattle.steps.proofs.Sums.{sum-at-most}
+use Rattle.line.specs.Arrays.{Arrays, limitAt, costAt, doublingsAt, powerAt, ArraysInRange, Describes}
+use Rattle.line.proofs.Arrays.{no-bits-stand}
+use Rattle.running.specs.declared.Running.{Running}
+use Rattle.running.specs.declared.Progress.the-variants.{Moved, Finished}
+use Rattle.running.specs.Running.{progressAfter, Stands, Runnable}
+use Rattle.loadings.specs.Loads.{Loadable}
+use Rattle.loadings.specs.Refits.{stepped}
 
-module _ (l : Line) (I : LineInRange l) where
-  pub most-run : run (addStep (tones l) (l .budget)) 3840 (noBits (tones l)) ≡ mostBits (tones l) (l .budget)
-  most-run = most-bits-enough (tones l) (line-rising l I) (l .budget) (no-bits-fit l I (l .budget)) 3840 (limits-high l I)
+-- ---- sums
 
-  pub target-run : (target : ℕ) → setBits (tones l) (l .budget) target ≡ carrying (tones l) target (run (addStep (tones l) (l .budget)) target (noBits (tones l)) .table)
-  target-run = set-bits-adds (tones l) (line-rising l I) (l .budget) (no-bits-fit l I (l .budget))
+module _ {count : ℕ} {A : Arrays} {T : Tones} (L : Loadable count A T) where
+  few : T .count ≤ mostTones
+  few = omega (arith, L .in-range .count-high, L .describes .same-count)
 
-  pub refit-run : {t : Table} → KeepsLimits (tones l) t → run (refitStep (tones l) (l .budget)) 3840 t ≡ refitRun (tones l) (l .budget) t
-  refit-run w =
-      refit-enough (tones l) (line-rising l I) (l .budget) (no-bits-fit l I (l .budget)) w 3840 (limits-high l I)
+  inside : (i : ℕ) → i < T .count → i < count
+  inside i il = omega (arith, L .describes .same-count)
+
+  limit-high : (i : ℕ) → i < T .count → T .limit i ≤ pairCap
+  limit-high i il = rw (L .describes .same-limit i (inside i il)) (by (decLt 0 (limitAt A i)))
+    where
+      by : Dec (0 < limitAt A i) → limitAt A i ≤ pairCap
+      by (no n) = omega arith
+      by (yes h) =
+          let one = mul-le-mul {n₁ = 1} {m₁ = limitAt A i} {n₂ = doublingsAt A i} {m₂ = limitAt A i} (L .in-range .cost-low i (inside i il) h .1) (omega arith) in
+          omega (arith, one, L .in-range .shift-high i (inside i il))
+
+  -- no line's limits add up to more
+  pub limits-high : sumOfLimits T ≤ mostBitsOfAll
+  limits-high = omega (arith, few, sum-at-most (T .count) pairCap (T .limit) limit-high)
+
+  power-high : (i b : ℕ) → i < T .count → b ≤ T .limit i → T .power i b ≤ 2 ^ 39
+  power-high i b il bl =
+      let k = inside i il in
+      let under : b ≤ limitAt A i = omega (arith, L .describes .same-limit i k) in
+      let shift : doublingsAt A i * b ≤ 15 = le-trans (mul-le-mul-left (doublingsAt A i) under) (L .in-range .shift-high i k) in
+      let high = lt-of-lt-of-le (shl-lt 24 (doublingsAt A i * b) (L .in-range .cost-high i k)) (pow-mono {i = 24 + doublingsAt A i * b} {j = 39} (omega arith)) in
+      rw (L .describes .same-power i b k bl) (omega (arith, high))
+
+  -- no total power comes near 2^62
+  pub bounded : (u : Table) → KeepsLimits T u → totalPower T u < 2 ^ 62
+  bounded u w = omega (arith, few, sum-at-most (T .count) (2 ^ 39) (λ i. T .power i (u ! i)) (λ i il. power-high i (u ! i) il (w .under i il)))
+
+  -- a run may go on from a running table that stands for a table of T
+  pub runnable : {r : Running} {t : Table} → Stands count A r T t → Runnable count A r
+  runnable {t = t} S = record { tones = T; table = t; in-range = L .in-range; stands = S; bounded = bounded }
+
+  -- ---- enough moves
+
+  module _ (budget : ℕ) where
+    -- 'No bits, no power'
+    pub none-fits : KeepsBudget T budget (noBits T)
+    none-fits = omega (arith, no-bits-stand (L .describes) (L .rising) (L .in-range .count-high) .same-power)
+
+    pub most-run : run (addStep T budget) mostBitsOfAll (noBits T) ≡ mostBits T budget
+    most-run = most-bits-enough T (L .rising) budget none-fits mostBitsOfAll limits-high
+
+    pub target-run : (target : ℕ) → setBits T budget target ≡ carrying T target (run (addStep T budget) target (noBits T) .table)
+    target-run = set-bits-adds T (L .rising) budget none-fits
+
+    pub refit-run : {t : Table} → KeepsLimits T t → run (refitStep T budget) mostBitsOfAll t ≡ refitRun T budget t
+    refit-run w = refit-enough T (L .rising) budget none-fits w mostBitsOfAll limits-high
 
 -- ---- what the last step of a run answers
 
 -- 'finished' if the run made fewer moves than it might, else 'moved'
-fewer : (made most : ℕ) → answerAfter made most ≡ Finished → made < most
+fewer : (made most : ℕ) → progressAfter made most ≡ Finished → made < most
 fewer made most e = go (decLt made most)
   where
     go : Dec (made < most) → made < most
@@ -39,7 +87,7 @@ fewer made most e = go (decLt made most)
         let w : Moved ≡ Finished = rw (le-ltb made most (omega arith)) at e in
         absurd (let z : _≡_ {A = ℕ} 0 1 = cc in omega arith)
 
-all : (made most : ℕ) → answerAfter made most ≡ Moved → most ≤ made
+all : (made most : ℕ) → progressAfter made most ≡ Moved → most ≤ made
 all made most e = go (decLt made most)
   where
     go : Dec (made < most) → most ≤ made
@@ -49,21 +97,19 @@ all made most e = go (decLt made most)
         absurd (let z : _≡_ {A = ℕ} 0 1 = cc in omega arith)
 
 -- the run that adds the target's bits carries them exactly if its last step moved
-module _ (l : Line) (I : LineInRange l) (target : ℕ) where
+module _ {count : ℕ} {A : Arrays} {T : Tones} (L : Loadable count A T) (budget target : ℕ) where
   adding : Ran
-  adding = run (addStep (tones l) (l .budget)) target (noBits (tones l))
+  adding = run (addStep T budget) target (noBits T)
 
-  bits : totalBits (tones l) (adding .table) ≡ adding .moves
+  bits : totalBits T (adding .table) ≡ adding .moves
   unfolding adding
-  bits = bits-are-moves (tones l) (line-rising l I) (l .budget) (no-bits-fit l I (l .budget)) target
+  bits = bits-are-moves T (L .rising) budget (none-fits L budget) target
 
-  pub carried-by : answerAfter (run (addStep (tones l) (l .budget)) target (noBits (tones l)) .moves) target ≡ Moved
-      → totalBits (tones l) (run (addStep (tones l) (l .budget)) target (noBits (tones l)) .table) ≡ target
+  pub carried-by : progressAfter (run (addStep T budget) target (noBits T) .moves) target ≡ Moved → totalBits T (run (addStep T budget) target (noBits T) .table) ≡ target
   unfolding adding
-  carried-by e = omega (arith, bits, all (adding .moves) target e, moves-at-most (addStep (tones l) (l .budget)) target (noBits (tones l)))
+  carried-by e = omega (arith, bits, all (adding .moves) target e, moves-at-most (addStep T budget) target (noBits T))
 
-  pub missed-by : answerAfter (run (addStep (tones l) (l .budget)) target (noBits (tones l)) .moves) target ≡ Finished
-      → ¬ (totalBits (tones l) (run (addStep (tones l) (l .budget)) target (noBits (tones l)) .table) ≡ target)
+  pub missed-by : progressAfter (run (addStep T budget) target (noBits T) .moves) target ≡ Finished → ¬ (totalBits T (run (addStep T budget) target (noBits T) .table) ≡ target)
   unfolding adding
   missed-by e q = omega (arith, bits, fewer (adding .moves) target e)
 

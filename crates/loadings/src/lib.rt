@@ -8,8 +8,8 @@ use command::Refusal;
 use moves::Rule;
 use running::Progress;
 use sizes::MOST_BITS;
-use sizes::TONES;
 use sizes::TONE_BYTES;
+use sizes::TONES;
 use starts::Above;
 
 // What a loading answers: total bits and total power; or why it is refused.
@@ -41,7 +41,16 @@ pub fn most(
         return Loaded::Refused(Refusal::DestinationTooSmall);
     }
     let start = starts::no_bits();
-    let ended = running::run(start, Rule::Add, MOST_BITS, budget, count, limits, costs, doublings);
+    let ended = running::run(
+        start,
+        Rule::Add,
+        MOST_BITS,
+        budget,
+        count,
+        limits,
+        costs,
+        doublings,
+    );
     let running = ended.running;
     let bits = running.bits;
     tables::put_table(table, count, costs, doublings, &bits);
@@ -66,7 +75,16 @@ pub fn target(
         return Loaded::Refused(Refusal::DestinationTooSmall);
     }
     let start = starts::no_bits();
-    let ended = running::run(start, Rule::Add, target, budget, count, limits, costs, doublings);
+    let ended = running::run(
+        start,
+        Rule::Add,
+        target,
+        budget,
+        count,
+        limits,
+        costs,
+        doublings,
+    );
     let progress = ended.progress;
     match progress {
         Progress::Finished => Loaded::Refused(Refusal::TargetNotCarried),
@@ -105,7 +123,16 @@ pub fn refit(
         Above::Tone(tone) => Refitted::Refused(Refusal::StartAboveLimit(tone as u16)),
         Above::Nowhere => {
             let from = starts::from_start(start, costs, doublings);
-            let ended = running::run(from, Rule::Refit, most, budget, count, limits, costs, doublings);
+            let ended = running::run(
+                from,
+                Rule::Refit,
+                most,
+                budget,
+                count,
+                limits,
+                costs,
+                doublings,
+            );
             let running = ended.running;
             let bits = running.bits;
             tables::put_table(table, count, costs, doublings, &bits);
