@@ -5,7 +5,8 @@ use native.Mathlib.Omega.{arith}
 use borrow.Author.Needs.{needs}
 use borrow.Author.Tests.{le-leb}
 use lib.ListN.{getD}
-use Rattle.command.specs.Rows.{bytesOf, decoded}
+use Rattle.command.specs.Rows.{bytesOf}
+use Rattle.command.specs.Format.{decoded}
 use Rattle.command.proofs.Rows.{IsAllowed, row-found, command-too-long, command-at, no-row, row-cut, row-whole}
 use Rattle.command.proofs.decode.Statement.{statement}
 use Rattle.command.proofs.decode.Tie as tie
@@ -53,9 +54,8 @@ returns-4 c =
 
 operands-requires : tie.Need-operands-requires
 operands-requires c κs = (
-  omega (arith, c .before .before .command-bytes .ensures ∙ ap bytesOf (is-allowed (c .before) .row)),
-  c .before .before .before .before .before .if1 .left,
   is-allowed (c .before) .low,
+  (omega (arith, c .before .before .command-bytes .ensures ∙ ap bytesOf (is-allowed (c .before) .row)), c .before .before .before .before .before .if1 .left),
 )
 
 add-t21 : tie.Need-add-t21

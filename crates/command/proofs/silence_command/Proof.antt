@@ -5,7 +5,7 @@ use native.Mathlib.Omega.{arith}
 use borrow.Author.Needs.{needs}
 use Rattle.bigendian.specs.Number.{number}
 use Rattle.bigendian.proofs.Numbers.{number-there}
-use Rattle.command.proofs.Rows.{above, in-range, silence-at}
+use Rattle.command.proofs.Rows.{above, in-range, silence-operands}
 use Rattle.command.proofs.silence_command.Statement.{statement}
 use Rattle.command.proofs.silence_command.Tie as tie
 
@@ -19,6 +19,9 @@ add-word c = search needs
 shared-slice-read-word : tie.Need-shared-slice-read-word
 shared-slice-read-word c = search needs
 
+cast-if1 : tie.Need-cast-if1
+cast-if1 c = omega (arith, c .shared-slice-known2 .given (c .before .before .args .at + 1))
+
 add-out-of-range : tie.Need-add-out-of-range
 add-out-of-range c = search needs
 
@@ -26,8 +29,8 @@ out-of-range-requires : tie.Need-out-of-range-requires
 out-of-range-requires c κs = search needs
 
 returns : tie.Need-returns
-returns c described =
-    c .out-of-range .ensures ∙ sym (silence-at _ described _ _ ∙ above _ _ _ _ refl (omega arith) (c .before .if1 .taken))
+returns c known =
+    c .out-of-range .ensures ∙ sym (silence-operands _ known _ _ ∙ above _ _ _ _ refl (omega arith) (omega arith))
 
 add-number-at : tie.Need-add-number-at
 add-number-at c = search needs
@@ -48,17 +51,17 @@ cast-t14 : tie.Need-cast-t14
 cast-t14 c = search needs
 
 returns-2 : tie.Need-returns-2
-returns-2 c described =
+returns-2 c known =
     sym
-    (silence-at _ described _ _
-    ∙ in-range _ _ _ _ refl (omega arith) (c .before .before .before .if1 .left)
+    (silence-operands _ known _ _
+    ∙ in-range _ _ _ _ refl (omega arith) (omega arith)
     ∙ rw (sym (map-read (c .before .before)), sym (c .before .names-beyond .ensures), c .if2 .taken))
 
 returns-3 : tie.Need-returns-3
-returns-3 c described =
+returns-3 c known =
     sym
-    (silence-at _ described _ _
-    ∙ in-range _ _ _ _ refl (omega arith) (c .before .before .before .if1 .left)
+    (silence-operands _ known _ _
+    ∙ in-range _ _ _ _ refl (omega arith) (omega arith)
     ∙ rw (sym (map-read (c .before .before)), sym (c .before .names-beyond .ensures), c .if2 .left))
 
 pub silence-command-spec : {M : Type 1} → statement M
@@ -67,6 +70,7 @@ silence-command-spec =
     (tie.spec
     add-word
     shared-slice-read-word
+    cast-if1
     add-out-of-range
     out-of-range-requires
     returns
