@@ -5,7 +5,7 @@ use native.Mathlib.Omega.{arith}
 use borrow.Author.Count.{below-more}
 use borrow.Author.Needs.{needs}
 use lib.ListN.{length, getD}
-use Rattle.starts.proofs.Above.{none-above, above-at}
+use Rattle.starts.proofs.First.{none-above, above-at}
 use Rattle.starts.proofs.first_above.Statement.{statement}
 use Rattle.starts.proofs.first_above.Tie as tie
 
@@ -28,7 +28,7 @@ returns : tie.Need-returns Inv-loop μ-loop
 returns c = λ T same.
     let a = c .before .before .before .before in
     let i = a .loop .i in
-    sym (above-at T _ _ i (omega arith) (omega (arith, same i (omega arith))) (λ j l. omega (arith, a .loop .inv .1 j l, same j (omega arith))))
+    sym (above-at T _ _ i (omega arith) (omega (arith, same .same-limit i (omega arith))) (λ j l. omega (arith, a .loop .inv .1 j l, same .same-limit j (omega arith))))
 
 add-i : tie.Need-add-i Inv-loop μ-loop
 add-i c = search needs
@@ -40,7 +40,7 @@ loop-again : tie.Need-loop-again Inv-loop μ-loop
 loop-again c = (omega arith, below-more _ _ (c .before .before .before .before .loop .inv .1) (omega arith))
 
 returns-2 : tie.Need-returns-2 Inv-loop μ-loop
-returns-2 c = λ T same. sym (none-above T _ _ (λ j l. omega (arith, c .before .loop .inv .1 j (omega arith), same j l)))
+returns-2 c = λ T same. sym (none-above T _ _ (λ j l. omega (arith, c .before .loop .inv .1 j (omega arith), same .same-limit j l)))
 
 pub first-above-spec : {M : Type 1} → statement M
 first-above-spec =
