@@ -3,7 +3,7 @@
 use mathlib.Core.Bool.{Bool, true, false}
 use mathlib.Core.List.{List}
 use mathlib.Core.Path.{_≡_, refl, ap, sym, _∙_}
-use Prim.Native.Nat.{ℕ, _+_, _/_, _%_, _≤_, _<_}
+use Prim.Native.Nat.{ℕ, zero, suc, _+_, _/_, _%_, _≤_, _<_}
 use native.Mathlib.Omega.{arith}
 use lib.Dec.{eqb}
 use lib.ListN.{length, getD, set, replicate, List·getD-eq-default}
@@ -11,11 +11,15 @@ use Rattle.sizes.specs.Sizes.{mostTones, wordTones}
 use Rattle.lists.proofs.Stores.{Filled, filled-none, filled-more, filled-all}
 use Rattle.silence.specs.Map.{bit, silenced}
 use Rattle.line.specs.declared.Steps.{Steps}
-use Rattle.line.specs.Line.{undescribed, Line, entryOf, EntryInRange, noSteps, entrySteps, stepsAt}
+use Rattle.line.specs.Tone.{Gap}
+use Rattle.line.specs.Line.{undescribed, described, Line, entryOf, EntryInRange, noSteps, entrySteps, stepsAt}
 use Rattle.line.specs.Arrays.{Arrays, arrays, ArraysOf}
-use Rattle.command.specs.Places.{entryAt}
-use Rattle.sheet.specs.Index.{Indexes}
-use Rattle.sheet.proofs.Sound.{Sound}
+use Rattle.command.specs.declared.Header.{Header}
+use Rattle.command.specs.Places.{toneAt, entryAt}
+use Rattle.sheet.specs.Index.{Indexes, Indexed}
+use Rattle.sheet.specs.Reading.{reading}
+use Rattle.sheet.proofs.Sound.{Bytes, Sound, accepted-sound}
+use Rattle.arrays.specs.Tones.{HoldsLineOf}
 
 -- the first i tones of a line are in the arrays, and nothing past them
 pub record Filling (l : Line) (limits costs doublings : List ℕ) (i : ℕ) : Type 0 where
@@ -69,3 +73,55 @@ module _ {s places maps : List ℕ} {l : Line} (x : Indexes s places maps l) (i 
 
   pub placed-in-range : EntryInRange (entryOf l i) → EntryInRange (entryAt s (getD places i 0))
   placed-in-range r = rw (← x .entry i) r
+
+-- ---- as the code goes
+
+pub entry-there : (s : List ℕ) (p : ℕ) → 1 ≤ p → entryAt s p ≡ described (toneAt s p)
+entry-there s zero h = absurd (omega arith)
+entry-there s (suc p) h = refl
+
+pub entry-none : (s : List ℕ) (p : ℕ) → p < 1 → entryAt s p ≡ undescribed
+entry-none s zero h = refl
+entry-none s (suc p) h = absurd (omega arith)
+
+-- an index of a sheet, and the first i tones of its line in the arrays
+pub record FillingOf (s : List ℕ) (h : Header) (places maps limits costs doublings : List ℕ) (i : ℕ) : Type 0 where
+  pub indexed : Indexed s h places maps
+  pub sound : Sound (indexed .line)
+  pub filling : Filling (indexed .line) limits costs doublings i
+
+module _ {s places maps limits costs doublings : List ℕ} {h : Header} {i : ℕ} (F : FillingOf s h places maps limits costs doublings i) where
+  abbrev line : Line
+  line = F .indexed .line
+
+  pub size-is : line .size ≡ h .size
+  size-is = ap (λ (x : Header). x .size) (F .indexed .header-is)
+
+  gap-is : h .gap ≡ line .gap
+  gap-is = ap (λ (x : Header). x .gap) (sym (F .indexed .header-is))
+
+  pub gap-in-range : Gap (h .gap)
+  gap-in-range = rw gap-is (F .sound .in-range .gap)
+
+  pub tone-in-range : i < h .size → EntryInRange (entryAt s (getD places i 0))
+  tone-in-range l = placed-in-range (F .indexed .indexes) i (F .sound .in-range .entries i (omega (arith, size-is)))
+
+  pub size-high : h .size ≤ mostTones
+  size-high = omega (arith, size-is, F .sound .in-range .size-high)
+
+  -- one tone more, as the code finds it at its place
+  pub filled-next : i < h .size → (q : Bool) → q ≡ silenced maps i → (x : Steps) → x ≡ entrySteps (h .gap) (entryAt s (getD places i 0)) q
+      → FillingOf s h places maps (set limits i (x .limit)) (set costs i (x .cost)) (set doublings i (x .doublings)) (i + 1)
+  filled-next l q silent x e = record {
+    indexed = F .indexed;
+    sound = F .sound;
+    filling = filling-more (F .filling) (omega (arith, size-is)) (F .sound .in-range .size-high) x (rw silent at e ∙ placed-steps (F .indexed .indexes) i (h .gap) gap-is);
+  }
+
+  -- all of them are in
+  pub filled-line : h .size ≤ i → HoldsLineOf (reading s) (arrays limits costs doublings)
+  filled-line l = rw (F .indexed .means) (F .sound .in-range, filling-all (F .sound) (F .filling) (omega (arith, size-is)))
+
+pub filling-starts : {s places maps : List ℕ} {h : Header} → Bytes s → Indexed s h places maps
+    → FillingOf s h places maps (replicate mostTones 0) (replicate mostTones 0) (replicate mostTones 0) 0
+filling-starts {s} b x = record { indexed = x; sound = accepted-sound s b (x .line) (x .means); filling = filling-none (x .line) }
