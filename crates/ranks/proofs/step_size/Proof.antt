@@ -10,12 +10,12 @@ add-power-at : tie.Need-add-power-at
 add-power-at c = search needs
 
 power-at-requires : tie.Need-power-at-requires
-power-at-requires c κs = (c .pre .0, rw (add-one (c .args .bits)) (c .pre .1))
+power-at-requires c κs = (c .pre .0, rw (add-one (c .args .bits)) (c .pre .1 .0))
 
 power-at-requires-2 : tie.Need-power-at-requires-2
 power-at-requires-2 c κs =
     let a = c .before in
-    (a .pre .0, le-trans (shift-less (a .args .doublings) (a .args .bits)) (a .pre .1))
+    (a .pre .0, le-trans (shift-less (a .args .doublings) (a .args .bits)) (a .pre .1 .0))
 
 sub-result : tie.Need-sub-result
 sub-result c =
