@@ -14,9 +14,8 @@ use Rattle.steps.specs.Tones.{Tones, step, Before, before?, Table, _!_, totalPo
 use Rattle.steps.specs.Runs.{earliestFree, latestHeld, taking, givingUp, fits?, takeIfFits, giveUpOrTake, refitMove, refitStep, moved, finished}
 use Rattle.steps.proofs.Search.{Earliest, earliestFree-is, Latest, latestHeld-is}
 use Rattle.line.specs.Arrays.{Arrays, ArraysInRange, Describes}
-use Rattle.line.proofs.Arrays.{same-step}
 use Rattle.ranks.specs.Ranks.{rank, noStep, rankFree, rankHeld}
-use Rattle.ranks.proofs.Kept.{step-in-range}
+use Rattle.ranks.proofs.Sizes.{step-in-range}
 use Rattle.ranks.proofs.Order.{rank-before, before-rank}
 use Rattle.moves.specs.declared.Rule.{Rule}
 use Rattle.moves.specs.declared.Rule.the-variants.{Add, Refit}
@@ -27,15 +26,12 @@ use Rattle.moves.specs.Moves.{stepAt, Small, Knows, Takes, GivesUp, Exch
 pub small : {count : ℕ} {A : Arrays} {T : Tones} → ArraysInRange count A → Describes count A T → Small T
 small {count} {A} {T} I D = record {
   count-high = omega (arith, D .same-count, I .count-high);
-  size-low = λ i b il h. in-range i b (inside il) h .0;
-  size-high = λ i b il h. in-range i b (inside il) h .1;
+  size-low = λ i b il h. step-in-range I D i b (inside il) h .0;
+  size-high = λ i b il h. step-in-range I D i b (inside il) h .1;
 }
   where
     inside : {i : ℕ} → i < T .count → i < count
     inside l = omega (arith, D .same-count)
-
-    in-range : (i b : ℕ) → i < count → b < T .limit i → (0 < step T i b) × (step T i b < 2 ^ 39)
-    in-range i b il h = rw (same-step D i b il h) (step-in-range I i b il (omega (arith, D .same-limit i il)))
 
 -- adding knows what any rule does
 pub adds : {r : Rule} {T : Tones} {t : Table} {power earliest latest : ℕ} → Knows r T t power earliest latest → Knows Add T t power earliest 0
