@@ -4,7 +4,7 @@ ghost use mathlib.Core.Path.{_≡_};
 ghost use Rattle.lists.specs.Lent.{before, after};
 ghost use Rattle.line.specs.Arrays.{arrays};
 ghost use Rattle.ranks.specs.Ranks.{Ranked};
-ghost use Rattle.running.specs.Running.{Runnable, StepsBy, RunsBy};
+ghost use Rattle.running.specs.Running.{taken, givenUp, CanTake, CanGiveUp, Follow, Runnable, StepsBy, RunsBy};
 use moves::Move;
 use moves::Rule;
 use moves::Step;
@@ -46,12 +46,23 @@ impl Running {
         free: &mut [u64; TONES],
         held: &mut [u64; TONES],
     ) -> Running
+        requires { ⌜ CanTake (arrays (now limits) (now costs) (now doublings)) self f ⌝ }
+        ensures { λ r. ⌜ r ≡ taken self f ⌝ }
+        ensures { λ r. ⌜ Follow (arrays (before limits) (before costs) (before doublings)) f self r (before free) (before held) (after free) (after held) ⌝ }
     {
         let tone = f.tone;
         let bits = self.bits[tone] + 1;
         self.bits[tone] = bits;
         self.power += f.size;
-        ranks::put_ranks(tone, limits[tone], costs[tone], doublings[tone], bits, free, held);
+        ranks::put_ranks(
+            tone,
+            limits[tone],
+            costs[tone],
+            doublings[tone],
+            bits,
+            free,
+            held,
+        );
         self
     }
 
@@ -65,12 +76,23 @@ impl Running {
         free: &mut [u64; TONES],
         held: &mut [u64; TONES],
     ) -> Running
+        requires { ⌜ CanGiveUp (arrays (now limits) (now costs) (now doublings)) self h ⌝ }
+        ensures { λ r. ⌜ r ≡ givenUp self h ⌝ }
+        ensures { λ r. ⌜ Follow (arrays (before limits) (before costs) (before doublings)) h self r (before free) (before held) (after free) (after held) ⌝ }
     {
         let tone = h.tone;
         let bits = self.bits[tone] - 1;
         self.bits[tone] = bits;
         self.power -= h.size;
-        ranks::put_ranks(tone, limits[tone], costs[tone], doublings[tone], bits, free, held);
+        ranks::put_ranks(
+            tone,
+            limits[tone],
+            costs[tone],
+            doublings[tone],
+            bits,
+            free,
+            held,
+        );
         self
     }
 
@@ -142,9 +164,17 @@ pub fn run(
     let mut running = start;
     let mut moves: u32 = 0;
     while moves < most {
-        let stepped = running.step(rule, budget, count, limits, costs, doublings, &mut free, &mut held);
-        let next = stepped.running;
-        running = next;
+        let stepped = running.step(
+            rule,
+            budget,
+            count,
+            limits,
+            costs,
+            doublings,
+            &mut free,
+            &mut held,
+        );
+        running = stepped.running;
         let progress = stepped.progress;
         match progress {
             Progress::Moved => {
@@ -154,7 +184,7 @@ pub fn run(
                 return Ended {
                     running: running,
                     moves: moves,
-                    progress: Progress::Finished,
+                    progress: progress,
                 };
             }
         }
