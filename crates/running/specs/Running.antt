@@ -3,13 +3,15 @@
 use mathlib.Core.Bool.{cond}
 use mathlib.Core.List.{List}
 use mathlib.Core.Path.{_≡_}
-use Prim.Native.Nat.{ℕ, suc, _+_, _-_, _^_, _<_}
+use Prim.Native.Nat.{ℕ, suc, _+_, _-_, _^_, _≤_, _<_}
 use lib.Dec.{ltb}
 use lib.ListN.{getD, set}
 use Rattle.steps.specs.Tones.{Tones, Table, totalPower, KeepsLimits}
 use Rattle.steps.specs.Runs as rule
-use Rattle.line.specs.Arrays.{Arrays, ArraysInRange, StandsFor}
+use Rattle.line.specs.Arrays.{Arrays, limitAt, ArraysInRange, StandsFor}
+use Rattle.ranks.specs.Ranks.{Ranked}
 use Rattle.moves.specs.declared.Rule.{Rule}
+use Rattle.moves.specs.declared.Step.{Step}
 use Rattle.moves.specs.Moves.{ruleOf}
 use Rattle.running.specs.declared.Progress.{Progress}
 use Rattle.running.specs.declared.Progress.the-variants.{Moved, Finished}
@@ -20,6 +22,34 @@ use Rattle.running.specs.declared.Ended.{Ended}
 -- 'finished' if a run made fewer moves than it may, else 'moved': so with none allowed it is 'moved'
 abbrev pub progressAfter : (made most : ℕ) → Progress
 progressAfter made most = cond (ltb made most) Finished Moved
+
+-- the running table with a free step taken, and with a held one given up
+abbrev pub taken : Running → Step → Running
+taken r f = record { bits = set (r .bits) (f .tone) (suc (getD (r .bits) (f .tone) 0)); power = r .power + f .size }
+
+abbrev pub givenUp : Running → Step → Running
+givenUp r h = record { bits = set (r .bits) (h .tone) (getD (r .bits) (h .tone) 0 - 1); power = r .power - h .size }
+
+-- A step of one of the tones can be taken: it is free, and the total stays within 64 bits.
+pub record CanTake (A : Arrays) (r : Running) (f : Step) : Type 0 where
+  pub count : ℕ
+  pub in-range : ArraysInRange count A
+  pub tone : f .tone < count
+  pub free : getD (r .bits) (f .tone) 0 < limitAt A (f .tone)
+  pub bounded : r .power + f .size < 2 ^ 64
+
+-- A step of one of the tones can be given up: it is held, and the total has its size.
+pub record CanGiveUp (A : Arrays) (r : Running) (h : Step) : Type 0 where
+  pub count : ℕ
+  pub in-range : ArraysInRange count A
+  pub tone : h .tone < count
+  pub held : 0 < getD (r .bits) (h .tone) 0
+  pub under : getD (r .bits) (h .tone) 0 ≤ limitAt A (h .tone)
+  pub bounded : h .size ≤ r .power
+
+-- The kept ranks follow a move of this step: if they were those of the bits before it, they are those of the bits after it.
+pub record Follow (A : Arrays) (s : Step) (old new : Running) (free held newFree newHeld : List ℕ) : Type 0 where
+  pub follow : (count : ℕ) → s .tone < count → Ranked count A (old .bits) free held → Ranked count A (new .bits) newFree newHeld
 
 module _ (count : ℕ) (A : Arrays) where
   -- The running table stands for table t of tones T, and carries its total power.

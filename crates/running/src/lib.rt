@@ -4,7 +4,7 @@ ghost use mathlib.Core.Path.{_≡_};
 ghost use Rattle.lists.specs.Lent.{before, after};
 ghost use Rattle.line.specs.Arrays.{arrays};
 ghost use Rattle.ranks.specs.Ranks.{Ranked};
-ghost use Rattle.running.specs.Running.{Runnable, StepsBy, RunsBy};
+ghost use Rattle.running.specs.Running.{taken, givenUp, CanTake, CanGiveUp, Follow, Runnable, StepsBy, RunsBy};
 use moves::Move;
 use moves::Rule;
 use moves::Step;
@@ -45,7 +45,11 @@ impl Running {
         doublings: &[u8; TONES],
         free: &mut [u64; TONES],
         held: &mut [u64; TONES],
-    ) -> Running {
+    ) -> Running
+        requires { ⌜ CanTake (arrays (now limits) (now costs) (now doublings)) self f ⌝ }
+        ensures { λ r. ⌜ r ≡ taken self f ⌝ }
+        ensures { λ r. ⌜ Follow (arrays (before limits) (before costs) (before doublings)) f self r (before free) (before held) (after free) (after held) ⌝ }
+    {
         let tone = f.tone;
         let bits = self.bits[tone] + 1;
         self.bits[tone] = bits;
@@ -71,7 +75,11 @@ impl Running {
         doublings: &[u8; TONES],
         free: &mut [u64; TONES],
         held: &mut [u64; TONES],
-    ) -> Running {
+    ) -> Running
+        requires { ⌜ CanGiveUp (arrays (now limits) (now costs) (now doublings)) self h ⌝ }
+        ensures { λ r. ⌜ r ≡ givenUp self h ⌝ }
+        ensures { λ r. ⌜ Follow (arrays (before limits) (before costs) (before doublings)) h self r (before free) (before held) (after free) (after held) ⌝ }
+    {
         let tone = h.tone;
         let bits = self.bits[tone] - 1;
         self.bits[tone] = bits;
@@ -166,8 +174,7 @@ pub fn run(
             &mut free,
             &mut held,
         );
-        let next = stepped.running;
-        running = next;
+        running = stepped.running;
         let progress = stepped.progress;
         match progress {
             Progress::Moved => {
@@ -177,7 +184,7 @@ pub fn run(
                 return Ended {
                     running: running,
                     moves: moves,
-                    progress: Progress::Finished,
+                    progress: progress,
                 };
             }
         }

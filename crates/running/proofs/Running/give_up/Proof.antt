@@ -1,0 +1,61 @@
+-- `running::Running::give_up` meets its contract. Assumes nothing.
+use mathlib.Core.Path.{_≡_, refl}
+use native.Mathlib.Omega.{arith}
+use borrow.Author.Needs.{needs}
+use lib.ListN.{length}
+use Rattle.sizes.specs.Sizes.{mostTones}
+use Rattle.running.proofs.Changes.{followed}
+use Rattle.running.proofs.Running.give_up.Statement.{statement}
+use Rattle.running.proofs.Running.give_up.Tie as tie
+
+element-copy-out-bits : tie.Need-element-copy-out-bits
+element-copy-out-bits c = search needs
+
+sub-bits : tie.Need-sub-bits
+sub-bits c = search needs
+
+element-write-self : tie.Need-element-write-self
+element-write-self c = search needs
+
+sub-self : tie.Need-sub-self
+sub-self c = search needs
+
+element-copy-out-put-ranks : tie.Need-element-copy-out-put-ranks
+element-copy-out-put-ranks c = search needs
+
+mul-put-ranks : tie.Need-mul-put-ranks
+mul-put-ranks c = search needs
+
+element-copy-out-put-ranks-2 : tie.Need-element-copy-out-put-ranks-2
+element-copy-out-put-ranks-2 c = search needs
+
+element-copy-out-put-ranks-3 : tie.Need-element-copy-out-put-ranks-3
+element-copy-out-put-ranks-3 c = search needs
+
+put-ranks-requires : tie.Need-put-ranks-requires
+put-ranks-requires c κs =
+    let P = c .before .before .before .before .before .before .before .pre in
+    let I = P .in-range in
+    (omega (arith, P .tone, I .count-high), (I .cost-high _ (P .tone), (I .shift-high _ (P .tone), omega (arith, P .under))))
+
+returns : tie.Need-returns
+returns c =
+    let P = c .before .before .before .before .before .before .before .before .pre in
+    let n : length (c .before .before .before .before .before .before .before .before .args .t1 .bits) ≡ mostTones = search needs in
+    let stored = c .put-ranks .ensures in
+    (refl, followed (omega (arith, P .tone, P .in-range .count-high)) n (stored .1 .1) _ _ (stored .0) (stored .1 .0))
+
+pub give-up-spec : {M : Type 1} → statement M
+give-up-spec =
+    tie.close
+    (tie.spec
+    element-copy-out-bits
+    sub-bits
+    element-write-self
+    sub-self
+    element-copy-out-put-ranks
+    mul-put-ranks
+    element-copy-out-put-ranks-2
+    element-copy-out-put-ranks-3
+    put-ranks-requires
+    returns)

@@ -1,0 +1,62 @@
+-- `running::Running::take` meets its contract. Assumes nothing.
+use mathlib.Core.Path.{_≡_, refl}
+use native.Mathlib.Numerals.{add-one}
+use native.Mathlib.Omega.{arith}
+use borrow.Author.Needs.{needs}
+use lib.ListN.{length}
+use Rattle.sizes.specs.Sizes.{mostTones}
+use Rattle.running.proofs.Changes.{limit-small, followed}
+use Rattle.running.proofs.Running.take.Statement.{statement}
+use Rattle.running.proofs.Running.take.Tie as tie
+
+element-copy-out-bits : tie.Need-element-copy-out-bits
+element-copy-out-bits c = search needs
+
+add-bits : tie.Need-add-bits
+add-bits c = let P = c .before .pre in record { fits = omega (arith, limit-small (P .in-range) _ (P .tone), P .free) }
+
+element-write-self : tie.Need-element-write-self
+element-write-self c = search needs
+
+add-self : tie.Need-add-self
+add-self c = search needs
+
+element-copy-out-put-ranks : tie.Need-element-copy-out-put-ranks
+element-copy-out-put-ranks c = search needs
+
+mul-put-ranks : tie.Need-mul-put-ranks
+mul-put-ranks c = search needs
+
+element-copy-out-put-ranks-2 : tie.Need-element-copy-out-put-ranks-2
+element-copy-out-put-ranks-2 c = search needs
+
+element-copy-out-put-ranks-3 : tie.Need-element-copy-out-put-ranks-3
+element-copy-out-put-ranks-3 c = search needs
+
+put-ranks-requires : tie.Need-put-ranks-requires
+put-ranks-requires c κs =
+    let P = c .before .before .before .before .before .before .before .pre in
+    let I = P .in-range in
+    (omega (arith, P .tone, I .count-high), (I .cost-high _ (P .tone), (I .shift-high _ (P .tone), omega (arith, P .free))))
+
+returns : tie.Need-returns
+returns c =
+    let P = c .before .before .before .before .before .before .before .before .pre in
+    let n : length (c .before .before .before .before .before .before .before .before .args .t1 .bits) ≡ mostTones = search needs in
+    let stored = c .put-ranks .ensures in
+    (rw add-one refl, followed (omega (arith, P .tone, P .in-range .count-high)) n (stored .1 .1) _ _ (stored .0) (stored .1 .0))
+
+pub take-spec : {M : Type 1} → statement M
+take-spec =
+    tie.close
+    (tie.spec
+    element-copy-out-bits
+    add-bits
+    element-write-self
+    add-self
+    element-copy-out-put-ranks
+    mul-put-ranks
+    element-copy-out-put-ranks-2
+    element-copy-out-put-ranks-3
+    put-ranks-requires
+    returns)
