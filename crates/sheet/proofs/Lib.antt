@@ -1,2 +1,4 @@
 pub mod Walk
 pub mod Sound
+pub mod Notes
+pub mod Turns

@@ -115,6 +115,10 @@ beyond-clear size word map l e k h =
         let s : eqb (bit map k) 1 ≡ false = sym (rw (le-leb size (32 * word + k) h) (and-true (eqb (bit map k) 1))) ∙ q in
         omega (arith, bit-lt map k, eqb-false (bit map k) 1 s)
 
+-- a map names no tone beyond, and has no other: it is 0
+pub beyond-zero : (size word map : ℕ) → map < 2 ^ 32 → size ≤ 32 * word → namesBeyond size word map ≡ false → map ≡ 0
+beyond-zero size word map l h e = all-clear 32 map l (λ k. beyond-clear size word map l e k (omega arith))
+
 pub clear-beyond : (size word map : ℕ) → ((k : ℕ) → k < 32 → size ≤ 32 * word + k → bit map k ≡ 0) → namesBeyond size word map ≡ false
 unfolding namesBeyond
 clear-beyond size word map h =
