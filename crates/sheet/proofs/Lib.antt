@@ -2,3 +2,4 @@ pub mod Walk
 pub mod Sound
 pub mod Notes
 pub mod Turns
+pub mod Uses

@@ -90,7 +90,7 @@ count-le (suc n) test = omega (arith, count-le n test, one-le (test n))
 pub counted-le : (n : ℕ) (test : ℕ → Bool) {m : ℕ} → m ≡ count n test → m ≤ n
 counted-le n test e = omega (arith, count-le n test)
 
-count-same : (n : ℕ) (f g : ℕ → Bool) → ((k : ℕ) → k < n → f k ≡ g k) → count n f ≡ count n g
+pub count-same : (n : ℕ) (f g : ℕ → Bool) → ((k : ℕ) → k < n → f k ≡ g k) → count n f ≡ count n g
 unfolding count
 count-same zero f g h = refl
 count-same (suc n) f g h =
@@ -102,6 +102,20 @@ count-add : (n m : ℕ) (test : ℕ → Bool) → count (n + m) test ≡ count n
 unfolding count
 count-add n zero test = rw (add-zero n, add-zero (count n test))
 count-add n (suc m) test = rw (add-suc, count-add n m test) (add-assoc (count n test) (count m (λ k. test (n + k))) (one (test (n + m))))
+
+count-none : (n : ℕ) → count n (λ k. false) ≡ 0
+unfolding count
+count-none zero = refl
+count-none (suc n) = omega (arith, count-none n)
+
+-- where none passes from n on, those below n are all
+pub count-past : (n m : ℕ) (test : ℕ → Bool) → n ≤ m → ((k : ℕ) → n ≤ k → test k ≡ false) → count m test ≡ count n test
+count-past n m test h past =
+    let e : n + (m - n) ≡ m = omega arith in
+    ap (λ (k : ℕ). count k test) (sym e)
+    ∙ count-add n (m - n) test
+    ∙ ap (λ (k : ℕ). count n test + k) (count-same (m - n) _ _ (λ k l. past (n + k) (omega arith)) ∙ count-none (m - n))
+    ∙ add-zero (count n test)
 
 -- Tones that are `size` or more
 
