@@ -1,10 +1,5 @@
+pub mod Walk
 pub mod Sound
+pub mod Notes
 pub mod Turns
-pub mod Answers
-pub mod Parts
-pub mod Length
-pub mod Accepted
-pub mod Written
-pub mod RoundTrip
-pub mod Tidied
-pub mod Examples
+pub mod Uses

@@ -6,9 +6,8 @@ use mathlib.Core.Logic.{_⊎_}
 use mathlib.Core.Path.{_≡_}
 use Prim.Native.Nat.{ℕ, _+_, _≤_, _<_}
 use lib.ListN.{length, getD, replicate}
-use Rattle.sizes.specs.Sizes.{mostTones, mostWords, wordsOf}
+use Rattle.sizes.specs.Sizes.{mostTones, mostWords}
 use Rattle.line.specs.Line.{Line, entryOf}
-use Rattle.command.specs.declared.Refusal.{Refusal}
 use Rattle.command.specs.declared.Header.{Header}
 use Rattle.command.specs.Places.{entryAt}
 use Rattle.sheet.specs.declared.Read.{Read}
@@ -29,6 +28,11 @@ pub record Indexes (s places maps : List ℕ) (l : Line) : Type 0 where
   pub entry : (i : ℕ) → entryOf l i ≡ entryAt s (getD places i 0)
   pub stands : (i : ℕ) → 0 < getD places i 0 → ToneStands s i (getD places i 0)
   pub map : (word : ℕ) → getD (l .maps) word 0 ≡ getD maps word 0
+
+-- what reading answers: the line's header, or the refusal
+abbrev pub answerOf : Meaning → Read
+answerOf (accepted l) = read.Accepted (headerOf l)
+answerOf (refused q) = read.Refused q
 
 -- What reading answers and leaves: the line's header and its index, or the refusal and an empty index.
 abbrev pub Leaves : List ℕ → Read → (places maps : List ℕ) → Meaning → Type 0
