@@ -1,10 +1,2 @@
+pub mod Walk
 pub mod Sound
-pub mod Turns
-pub mod Answers
-pub mod Parts
-pub mod Length
-pub mod Accepted
-pub mod Written
-pub mod RoundTrip
-pub mod Tidied
-pub mod Examples

@@ -6,9 +6,8 @@ use mathlib.Core.Logic.{_⊎_}
 use mathlib.Core.Path.{_≡_}
 use Prim.Native.Nat.{ℕ, _+_, _≤_, _<_}
 use lib.ListN.{length, getD, replicate}
-use Rattle.sizes.specs.Sizes.{mostTones, mostWords, wordsOf}
+use Rattle.sizes.specs.Sizes.{mostTones, mostWords}
 use Rattle.line.specs.Line.{Line, entryOf}
-use Rattle.command.specs.declared.Refusal.{Refusal}
 use Rattle.command.specs.declared.Header.{Header}
 use Rattle.command.specs.Places.{entryAt}
 use Rattle.sheet.specs.declared.Read.{Read}
