@@ -1,7 +1,7 @@
 -- A written command reads back as what it does, wherever it stands in a sheet.
 -- Assumes nothing.
 use mathlib.Core.Path.{_≡_, refl, sym, ap, _∙_}
-use mathlib.Core.Bool.{Bool, true, false}
+use mathlib.Core.Bool.{false}
 use mathlib.Core.List.{List, [], _∷_, _++_, append-nil, append-assoc}
 use mathlib.Core.Option.{none, some}
 use Prim.Native.Nat.{ℕ, zero, suc, _+_, _^_, _≤_, _<_}
@@ -16,6 +16,7 @@ use Rattle.line.specs.Line.{Line, entryOf}
 use Rattle.command.specs.declared.Command.{Command}
 use Rattle.command.specs.Rows.{Seen, Operand, Row, withCode, width, operandsFrom, rowAt, end}
 use Rattle.command.specs.Format.{today, addressed, decoded}
+use Rattle.command.proofs.Walk.{seenAt}
 use Rattle.sheet.specs.Reading.{Meaning, accepted, go, headerOf, commandIn, afterCommand, readFrom}
 use Rattle.tidyform.specs.Tidy.{operandBytes, written}
 
@@ -49,7 +50,7 @@ after seen v = record { header = seen .header; known = seen .known; before = see
 
 -- what the first is judged by, with the line so far, where these bytes stand
 abbrev pub seenIn : Line → List ℕ → Seen
-seenIn l q = record { header = headerOf l; known = entryOf l (addressed q 0); before = [] }
+seenIn l q = seenAt (headerOf l) (entryOf l (addressed q 0))
 
 -- the values fit their operands' widths and meet no refusal
 pub data Good : Seen → List Operand → (values : List ℕ) → Type 0 where
