@@ -2,23 +2,24 @@
 -- Assumes nothing.
 use mathlib.Core.List.{List}
 use mathlib.Core.Path.{_≡_, ap}
-use Prim.Native.Nat.{ℕ, zero, suc, _+_, _≤_}
+use Prim.Native.Nat.{ℕ, zero, suc, _+_, _*_, _≤_}
 use native.Mathlib.Decide.{ℕ-discrete}
+use native.Mathlib.Nat.{mul-suc}
 use native.Mathlib.Omega.{arith}
 use lib.Bits.{bitOr}
 use lib.ListN.{length, getD, set, length-append}
 use lib.Seq.{getD-set-other}
+use Rattle.sizes.specs.Sizes.{mostTones, longestSheet, wordsOf}
+use Rattle.lists.proofs.Stores.{all-same}
 use Rattle.bigendian.proofs.Numbers.{length-bytes}
 use Rattle.bigendian.proofs.Stores.{length-none, length-next}
-use Rattle.line.specs.declared.Tone.{Tone}
-use Rattle.line.specs.declared.Slot.the-variants.{Described}
-use Rattle.line.specs.declared.Entry.{Entry}
-use Rattle.line.specs.declared.Line.{Line}
-use Rattle.line.specs.Line.{blank}
+use Rattle.line.specs.Line.{Entry, undescribed, described, Line}
+use Rattle.command.specs.declared.Header.{Header}
 use Rattle.command.specs.declared.Command.the-variants.{Describe, Silence}
-use Rattle.sheet.specs.Reading.{effect}
-use Rattle.sheet.specs.Tidy.{slotBytes, toneBytes, wordBytes, mapBytes, tidy}
-use Rattle.sheet.proofs.Parts.{length-slot-le, length-word-le, tones-grow, words-grow}
+use Rattle.command.specs.Places.{toneAt}
+use Rattle.sheet.specs.Reading.{bareLine, effect}
+use Rattle.tidyform.specs.Tidy.{entryBytes, toneBytes, wordBytes, mapBytes, tidy}
+use Rattle.tidyform.proofs.Parts.{length-entry-le, length-word-le, tones-grow, words-grow}
 
 -- ---- what the first entries of a list add up to, where each counts by its number and value
 
@@ -33,6 +34,10 @@ module _ {A : Type 0} (S : Adding A) where
   all-zero : (n : ℕ) (l : List A) → ((i : ℕ) → S .one i (getD l i (S .absent)) ≡ 0) → S .all n l ≡ 0
   all-zero zero l h = S .none l
   all-zero (suc n) l h = omega (arith, S .more n l, all-zero n l h, h n)
+
+  all-le : (most : ℕ) → ((i : ℕ) (v : A) → S .one i v ≤ most) → (n : ℕ) (l : List A) → S .all n l ≤ most * n
+  all-le most h zero l = omega (arith, S .none l)
+  all-le most h (suc n) l = omega (arith, S .more n l, all-le most h n l, h n (getD l n (S .absent)), mul-suc most n)
 
   -- an entry that comes later does not matter
   set-after : (n : ℕ) (l : List A) (i : ℕ) (v : A) → n ≤ i → S .all n (set l i v) ≡ S .all n l
@@ -60,11 +65,11 @@ module _ {A : Type 0} (S : Adding A) where
 -- ---- the tones
 
 abbrev toneLength : ℕ → Entry → ℕ
-toneLength i e = length (slotBytes i (e .slot))
+toneLength i e = length (entryBytes i e)
 
 abbrev tones : Adding Entry
 tones = record {
-  absent = blank;
+  absent = undescribed;
   one = toneLength;
   all = λ n es. length (toneBytes n es);
   none = λ es. length-none (tones-grow es);
@@ -88,33 +93,42 @@ maps = record {
 -- ---- the tidy form
 
 -- 3 bytes for 01, 3 for 02, 9 for 03 and 1 for 07
-pub length-tidy : (l : Line) → length (tidy l) ≡ 16 + (length (toneBytes (l .size) (l .entries)) + length (mapBytes 8 (l .maps)))
+pub length-tidy : (l : Line) → length (tidy l) ≡ 16 + (length (toneBytes (l .size) (l .entries)) + length (mapBytes (wordsOf (l .size)) (l .maps)))
 unfolding tidy
 length-tidy l = simp (length-append, length-bytes) (omega arith)
 
-pub tidy-blank : (l : Line) → ((i : ℕ) → getD (l .entries) i blank ≡ blank) → ((word : ℕ) → getD (l .maps) word 0 ≡ 0) → length (tidy l) ≡ 16
-tidy-blank l he hm =
+-- 16 + 15 × 256 + 6 × 8 bytes at most
+pub tidy-short : (l : Line) → l .size ≤ mostTones → length (tidy l) ≤ longestSheet
+tidy-short l h =
+    let words = wordsOf (l .size) in
+    omega (arith, length-tidy l, all-le tones 15 length-entry-le (l .size) (l .entries), all-le maps 6 length-word-le words (l .maps))
+
+-- nothing described and nothing silenced
+pub tidy-bare : (h : Header) → length (tidy (bareLine h)) ≡ 16
+tidy-bare h =
+    let words = wordsOf (h .size) in
     omega (
       arith,
-      length-tidy l,
-      all-zero tones (l .size) (l .entries) (λ i. ap (toneLength i) (he i)),
-      all-zero maps 8 (l .maps) (λ i. ap (mapLength i) (hm i)),
+      length-tidy (bareLine h),
+      all-zero tones (h .size) (bareLine h .entries) (λ i. ap (toneLength i) (all-same (h .size) i undescribed)),
+      all-zero maps words (bareLine h .maps) (λ i. ap (mapLength i) (all-same words i 0)),
     )
 
-pub tidy-describe : (l : Line) (i : ℕ) (t : Tone) → length (tidy (effect (Describe i t) l)) ≤ length (tidy l) + 15
-tidy-describe l i t =
-    omega (
-      arith,
-      length-tidy l,
-      length-tidy (effect (Describe i t) l),
-      set-adds tones 15 (λ k e. length-slot-le k (e .slot)) (l .size) (l .entries) i (record { slot = Described t }),
-    )
+module _ (l : Line) (s : List ℕ) (at : ℕ) where
+  pub tidy-describe : (i : ℕ) → length (tidy (effect (Describe i) s at l)) ≤ length (tidy l) + 15
+  tidy-describe i =
+      omega (
+        arith,
+        length-tidy l,
+        length-tidy (effect (Describe i) s at l),
+        set-adds tones 15 length-entry-le (l .size) (l .entries) i (described (toneAt s at)),
+      )
 
-pub tidy-silence : (l : Line) (word map : ℕ) → length (tidy (effect (Silence word map) l)) ≤ length (tidy l) + 6
-tidy-silence l word map =
-    omega (
-      arith,
-      length-tidy l,
-      length-tidy (effect (Silence word map) l),
-      set-adds maps 6 length-word-le 8 (l .maps) word (bitOr (getD (l .maps) word 0) map),
-    )
+  pub tidy-silence : (word map : ℕ) → length (tidy (effect (Silence word map) s at l)) ≤ length (tidy l) + 6
+  tidy-silence word map =
+      omega (
+        arith,
+        length-tidy l,
+        length-tidy (effect (Silence word map) s at l),
+        set-adds maps 6 length-word-le (wordsOf (l .size)) (l .maps) word (bitOr (getD (l .maps) word 0) map),
+      )

@@ -1,5 +1,6 @@
 -- The parts of the tidy form: how long each is, and how the lists of them grow. Assumes nothing.
 use mathlib.Core.Path.{_≡_, refl, ap, _∙_}
+use mathlib.Core.Bool.{Bool, true, false}
 use mathlib.Core.List.{List, [], _∷_}
 use Prim.Native.Nat.{ℕ, _≤_}
 use native.Mathlib.Decide.{ℕ-discrete}
@@ -8,33 +9,32 @@ use borrow.Author.Tests.{eq-eqb, ne-eqb}
 use lib.ListN.{length, getD, length-append}
 use Rattle.bigendian.proofs.Numbers.{length-bytes}
 use Rattle.bigendian.proofs.Stores.{Growing}
-use Rattle.command.specs.Rows.{silence}
-use Rattle.line.specs.declared.Kind.{Kind}
-use Rattle.line.specs.declared.Kind.the-variants.{Pair, Single}
 use Rattle.line.specs.declared.Tone.{Tone}
-use Rattle.line.specs.declared.Slot.{Slot}
-use Rattle.line.specs.declared.Slot.the-variants.{Undescribed, Described}
-use Rattle.line.specs.declared.Entry.{Entry}
-use Rattle.line.specs.Line.{blank}
-use Rattle.sheet.specs.Tidy.{written, kindBytes, slotBytes, toneBytes, wordBytes, mapBytes}
+use Rattle.line.specs.Tone.{carried, isSingle}
+use Rattle.line.specs.Line.{Entry, undescribed, described}
+use Rattle.command.specs.Rows.{Row, tone}
+use Rattle.command.specs.Codes.{toneRow, silenceRow}
+use Rattle.tidyform.specs.Tidy.{written, numbersOf, entryBytes, toneBytes, wordBytes, mapBytes}
 
 -- A command.
 
-length-kind : (tone : ℕ) (k : Kind) → length (kindBytes tone k) ≡ 15
-length-kind tone (Pair n) = simp (length-append, length-bytes)
-length-kind tone (Single n) = simp (length-append, length-bytes)
+-- the tone commands differ in their byte and in their cap's range
+pub tone-row : (single : Bool) → toneRow single ≡ tone (toneRow single .code) single
+tone-row false = refl
+tone-row true = refl
 
-pub length-described : (tone : ℕ) (t : Tone) → length (slotBytes tone (Described t)) ≡ 15
-length-described tone t = length-kind tone (t .kind)
+pub length-described : (i : ℕ) (t : Tone) → length (entryBytes i (described t)) ≡ 15
+length-described i t =
+    ap (λ (r : Row). length (written r (numbersOf i (carried t)))) (tone-row (isSingle (t .kind))) ∙ simp (length-append, length-bytes)
 
-pub length-slot-le : (tone : ℕ) (slot : Slot) → length (slotBytes tone slot) ≤ 15
-length-slot-le tone Undescribed = omega arith
-length-slot-le tone (Described t) = omega (arith, length-described tone t)
+pub length-entry-le : (i : ℕ) (e : Entry) → length (entryBytes i e) ≤ 15
+length-entry-le i undescribed = omega arith
+length-entry-le i (described t) = omega (arith, length-described i t)
 
 pub no-word : (word : ℕ) {map : ℕ} → map ≡ 0 → wordBytes word map ≡ []
 no-word word {map} e = rw (eq-eqb map 0 e)
 
-pub some-word : (word : ℕ) {map : ℕ} → (map ≡ 0 → ⊥) → wordBytes word map ≡ written silence (word ∷ map ∷ [])
+pub some-word : (word : ℕ) {map : ℕ} → (map ≡ 0 → ⊥) → wordBytes word map ≡ written silenceRow (word ∷ map ∷ [])
 some-word word {map} n = rw (ne-eqb map 0 n)
 
 pub length-word : (word : ℕ) {map : ℕ} → (map ≡ 0 → ⊥) → length (wordBytes word map) ≡ 6
@@ -52,7 +52,7 @@ length-word-le word map = by-zero (ℕ-discrete map 0)
 
 -- The tones and the words: lists that grow by one part at a time.
 
-pub tones-grow : (entries : List Entry) → Growing (λ n. toneBytes n entries) (λ n. slotBytes n (getD entries n blank .slot))
+pub tones-grow : (entries : List Entry) → Growing (λ n. toneBytes n entries) (λ n. entryBytes n (getD entries n undescribed))
 unfolding toneBytes
 tones-grow entries = record { none = refl; next = λ n. refl }
 

@@ -8,7 +8,6 @@ use lib.ListN.{getD}
 use Rattle.sizes.specs.Sizes.{wordsOf}
 use Rattle.bigendian.specs.Number.{bytes}
 use Rattle.line.specs.declared.Numbers.{Numbers}
-use Rattle.line.specs.declared.Tone.{Tone}
 use Rattle.line.specs.Tone.{carried, isSingle}
 use Rattle.line.specs.Line.{Entry, undescribed, described, Line}
 use Rattle.command.specs.Rows.{Row, Operand, gap, budget, end}
