@@ -10,8 +10,8 @@ ghost use Rattle.bigendian.specs.Number.{bytes};
 ghost use Rattle.steps.specs.Tones.{sum};
 ghost use Rattle.line.specs.Arrays.{arrays, PowersInRange};
 ghost use Rattle.tables.specs.Tables.{WritesTable};
-use sizes::TONES;
 use sizes::TONE_BYTES;
+use sizes::TONES;
 
 // The total bits of a table.
 pub fn total_bits(count: u16, bits: &[u8; TONES]) -> u32
