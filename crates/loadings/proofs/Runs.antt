@@ -13,11 +13,13 @@ use Rattle.steps.specs.Tones.{Tones, Table, _!_, noBits, totalBits, totalPower,
 use Rattle.steps.specs.Runs.{Answer, moved, finished, addStep, refitStep, Ran, follow, run, mostBits, refitRun, carrying, setBits}
 use Rattle.steps.proofs.Enough.{moves-at-most, most-bits-enough, refit-enough, set-bits-adds, bits-are-moves}
 use Rattle.steps.proofs.Sums.{sum-at-most}
-use Rattle.line.specs.Arrays.{Arrays, limitAt, costAt, doublingsAt, powerAt, ArraysInRange, Describes}
-use Rattle.line.proofs.Arrays.{no-bits-stand}
+use Rattle.line.specs.Arrays.{Arrays, limitAt, costAt, doublingsAt, powerAt, ArraysInRange, PowersInRange, Describes}
+use Rattle.line.proofs.Arrays.{no-bits-stand, stands-under, shift-under}
 use Rattle.running.specs.declared.Running.{Running}
+use Rattle.running.specs.declared.Progress.{Progress}
 use Rattle.running.specs.declared.Progress.the-variants.{Moved, Finished}
 use Rattle.running.specs.Running.{progressAfter, Stands, Runnable}
+use Rattle.starts.specs.Starts.{noBitsYet}
 use Rattle.loadings.specs.Loads.{Loadable}
 use Rattle.loadings.specs.Refits.{stepped}
 
@@ -58,6 +60,14 @@ module _ {count : ℕ} {A : Arrays} {T : Tones} (L : Loadable count A T) where
   -- a run may go on from a running table that stands for a table of T
   pub runnable : {r : Running} {t : Table} → Stands count A r T t → Runnable count A r
   runnable {t = t} S = record { tones = T; table = t; in-range = L .in-range; stands = S; bounded = bounded }
+
+  -- the running table of no bits
+  pub none-stands : {r : Running} → r ≡ noBitsYet → Stands count A r T (noBits T)
+  none-stands e = rw e (no-bits-stand (L .describes) (L .rising) (L .in-range .count-high))
+
+  -- the powers of a running table that stands for a table of T are in range
+  pub writable : {r : Running} {t : Table} → Stands count A r T t → PowersInRange count (A .costs) (A .doublings) (r .bits)
+  writable S = record { cost-high = L .in-range .cost-high; shift-high = shift-under (L .in-range) (stands-under S) }
 
   -- ---- enough moves
 
@@ -105,13 +115,13 @@ module _ {count : ℕ} {A : Arrays} {T : Tones} (L : Loadable count A T) (budget
   unfolding adding
   bits = bits-are-moves T (L .rising) budget (none-fits L budget) target
 
-  pub carried-by : progressAfter (run (addStep T budget) target (noBits T) .moves) target ≡ Moved → totalBits T (run (addStep T budget) target (noBits T) .table) ≡ target
+  pub carried-by : {p : Progress} → p ≡ progressAfter (run (addStep T budget) target (noBits T) .moves) target → p ≡ Moved → totalBits T (run (addStep T budget) target (noBits T) .table) ≡ target
   unfolding adding
-  carried-by e = omega (arith, bits, all (adding .moves) target e, moves-at-most (addStep T budget) target (noBits T))
+  carried-by e f = omega (arith, bits, all (adding .moves) target (sym e ∙ f), moves-at-most (addStep T budget) target (noBits T))
 
-  pub missed-by : progressAfter (run (addStep T budget) target (noBits T) .moves) target ≡ Finished → ¬ (totalBits T (run (addStep T budget) target (noBits T) .table) ≡ target)
+  pub missed-by : {p : Progress} → p ≡ progressAfter (run (addStep T budget) target (noBits T) .moves) target → p ≡ Finished → ¬ (totalBits T (run (addStep T budget) target (noBits T) .table) ≡ target)
   unfolding adding
-  missed-by e q = omega (arith, bits, fewer (adding .moves) target e)
+  missed-by e f q = omega (arith, bits, fewer (adding .moves) target (sym e ∙ f))
 
 -- ---- the single step
 

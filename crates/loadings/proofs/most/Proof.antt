@@ -1,61 +1,64 @@
--- `lineloads::most` meets its contract. Assumes nothing.
-use native.Mathlib.Omega.{arith}
+-- `loadings::most` meets its contract. Assumes nothing.
+use mathlib.Core.Path.{ap, sym, _∙_}
+use Rattle.steps.specs.Tones.{noBits}
+use Rattle.line.specs.Arrays.{Arrays, arrays}
+use Rattle.loadings.specs.Loads.{loaded, mostOn}
+use Rattle.loadings.proofs.Runs.{runnable, none-stands, writable, most-run}
+use Rattle.loadings.proofs.Outcomes.{load-refused, load-done, most-short, most-fits}
 use borrow.Author.Needs.{needs}
-use Rattle.steps.specs.Runs.{mostBits}
-use Rattle.line.specs.Line.{tones}
-use Rattle.starts.specs.Starts.{Stands}
-use Rattle.lineloads.proofs.Runs.{most-run}
-use Rattle.lineloads.proofs.Outcomes.{load-refused, load-done, most-short, most-fits}
-use Rattle.lineloads.proofs.most.Statement.{statement}
-use Rattle.lineloads.proofs.most.Tie as tie
-
-cast-if1 : tie.Need-cast-if1
-cast-if1 c = search needs
+use Rattle.loadings.proofs.most.Statement.{statement}
+use Rattle.loadings.proofs.most.Tie as tie
 
 mul-if1 : tie.Need-mul-if1
 mul-if1 c = search needs
 
 returns : tie.Need-returns
-returns c = load-refused _ (most-short _ (c .if1 .taken))
+returns c = λ T L. load-refused (mostOn T _) _ (most-short L _ (c .if1 .taken))
 
-flatten-requires : tie.Need-flatten-requires
-flatten-requires c κs = search needs
+no-bits-requires : tie.Need-no-bits-requires
+no-bits-requires c κs = search needs
 
-add-requires : tie.Need-add-requires
-add-requires c κs = (c .before .before .before .before .pre, c .flatten .ensures)
+run-requires : tie.Need-run-requires
+run-requires c κs =
+    let L = c .before .before .before .pre .loadable in
+    runnable L (none-stands L (c .no-bits .ensures))
 
--- the running table is where the run for most bits ends
-stands : (c : tie.After-add) → let l = c .before .before .before .before .before .args .line in Stands l (c .add .result .running) (mostBits (tones l) (l .budget) .table)
-stands c =
-    let k = c .before .before .before .before .before in
-    rw (most-run (k .args .line) (k .pre)) at (c .add .ensures .stands)
-
-write-requires : tie.Need-write-requires
-write-requires c κs =
-    let a = c .before .before .before in
-    (a .before .before .before .before .before .pre, a .before .flatten .ensures, record { table = _; stands = stands a }, a .before .before .if1 .left)
+put-table-requires : tie.Need-put-table-requires
+put-table-requires c κs =
+    let e = c .before .before .before .before in
+    let L = e .before .before .before .before .pre .loadable in
+    (L .in-range .count-high, (writable L (e .run .ensures _ _ (none-stands L (e .before .no-bits .ensures)) .stands), e .before .before .if1 .left))
 
 total-bits-requires : tie.Need-total-bits-requires
-total-bits-requires c κs = omega (arith, c .before .before .before .before .before .before .before .before .before .before .before .before .pre .size-high)
+total-bits-requires c κs = search needs
 
 same-length : tie.Need-same-length
 same-length c = search needs
 
 returns-2 : tie.Need-returns-2
-returns-2 c =
-    let a = c .before .before .before .before .before .before .before .before in
-    load-done (most-fits _ (a .before .before .if1 .left)) (record { stands = stands a; added-up = c .total-bits .ensures; written = c .before .before .before .before .write .ensures _ (stands a) })
+returns-2 c = λ T L.
+    let e = c .before .before .before .before .before .before .before .before .before in
+    let k = e .before .before .before .before in
+    let h = e .before .before .if1 .left in
+    let A : Arrays = arrays (k .args .limits .now) (k .args .costs .now) (k .args .doublings .now) in
+    load-done {A = A}
+    (record {
+      stands = e .run .ensures T (noBits T) (none-stands L (e .before .no-bits .ensures)) .stands;
+      added-up = c .total-bits .ensures;
+      room = h;
+      written = c .before .before .before .before .put-table .ensures (k .args .limits .now);
+    })
+    (mostOn T (k .args .budget)) (most-fits L (k .args .budget) h ∙ ap (loaded T) (sym (most-run L (k .args .budget))))
 
 pub most-spec : {M : Type 1} → statement M
 most-spec =
     tie.close
     (tie.spec
-    cast-if1
     mul-if1
     returns
-    flatten-requires
-    add-requires
-    write-requires
+    no-bits-requires
+    run-requires
+    put-table-requires
     total-bits-requires
     same-length
     returns-2)

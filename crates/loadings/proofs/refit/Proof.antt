@@ -1,121 +1,110 @@
--- `lineloads::refit` meets its contract. Assumes nothing.
-use mathlib.Core.List.{List}
-use mathlib.Core.Option.{some}
-use mathlib.Core.Path.{_≡_, ap, sym, _∙_}
+-- `loadings::refit` meets its contract. Assumes nothing.
 use native.Mathlib.Omega.{arith}
-use Prim.Native.Nat.{ℕ}
+use Rattle.line.specs.Arrays.{Arrays, arrays}
+use Rattle.loadings.specs.Refits.{refitUpTo}
+use Rattle.loadings.proofs.Runs.{runnable, writable}
+use Rattle.loadings.proofs.Starting.{found-above, first-tone, none-above, start-in-range, start-stands}
+use Rattle.loadings.proofs.Outcomes.{refit-refused, refit-done, refit-short, refit-length, refit-above, refit-fits}
 use borrow.Author.Needs.{needs}
-use Rattle.steps.specs.Tones.{KeepsLimits}
-use Rattle.line.specs.declared.Line.{Line}
-use Rattle.line.specs.Line.{tones}
-use Rattle.starts.specs.declared.Found.the-variants.{Nothing, Tone}
-use Rattle.flatten.proofs.Tones.{arrays-steps}
-use Rattle.starts.specs.Starts.{found, firstAbove}
-use Rattle.starts.proofs.Above.{First, first-above, none-keeps}
-use Rattle.lineloads.proofs.Outcomes.{refit-refused, refit-done, refit-short, refit-length, refit-above, refit-fits}
-use Rattle.lineloads.proofs.refit.Statement.{statement}
-use Rattle.lineloads.proofs.refit.Tie as tie
-
-cast-if1 : tie.Need-cast-if1
-cast-if1 c = search needs
+use Rattle.loadings.proofs.refit.Statement.{statement}
+use Rattle.loadings.proofs.refit.Tie as tie
 
 mul-if1 : tie.Need-mul-if1
 mul-if1 c = search needs
 
 returns : tie.Need-returns
-returns c = refit-refused _ (refit-short _ _ _ (c .if1 .taken))
-
-cast-if2 : tie.Need-cast-if2
-cast-if2 c = search needs
+returns c = λ T L. refit-refused (refitUpTo _ T _ _) _ (refit-short L _ _ _ (c .if1 .taken))
 
 returns-2 : tie.Need-returns-2
-returns-2 c = refit-refused _ (refit-length _ _ _ (c .before .before .if1 .left) (c .if2 .taken))
-
-flatten-requires : tie.Need-flatten-requires
-flatten-requires c κs = search needs
+returns-2 c = λ T L. refit-refused (refitUpTo _ T _ _) _ (refit-length L _ _ _ (c .before .if1 .left) (c .if2 .taken))
 
 first-above-requires : tie.Need-first-above-requires
-first-above-requires c κs =
-    omega (arith, c .before .before .before .if2 .left, c .before .before .before .before .before .before .before .before .before .pre .size-high)
-
--- the starting table and the line that the search went over
-abbrev start : tie.After-first-above → List ℕ
-start c = c .before .before .before .before .before .before .before .before .before .before .args .start .now
-
-abbrev line : tie.After-first-above → Line
-line c = c .before .before .before .before .before .before .before .before .before .before .args .line
-
-found-is : (c : tie.After-first-above) → found (c .first-above .result) ≡ firstAbove (tones (line c)) (start c) (line c .size)
-found-is c =
-    let e = c .before .before .before .before .if2 .left in
-    let a = arrays-steps (line c) (c .before .before .before .before .before .before .before .before .before .before .pre) (c .before .before .before .flatten .result) (c .before .before .before .flatten .ensures) in
-    c .first-above .ensures (tones (line c)) (λ i il. a .limits i (omega (arith, e))) ∙ ap (firstAbove (tones (line c)) (start c)) e
-
--- a tone that was found is the first above its limit
-first-tone : (c : tie.After-first-above) {i : ℕ} → c .first-above .result ≡ Tone i → First (tones (line c)) (start c) (line c .size) (some i)
-first-tone c e = rw (sym (found-is c) ∙ ap found e) at (first-above (tones (line c)) (start c) (line c .size))
-
--- where none was found the starting table keeps the limits
-keeps : (c : tie.After-first-above) → c .first-above .result ≡ Nothing → KeepsLimits (tones (line c)) (start c)
-keeps c e = none-keeps (tones (line c)) (start c) (c .before .before .before .before .if2 .left) (sym (found-is c) ∙ ap found e)
+first-above-requires c κs = search needs
 
 enum-known-above : tie.Need-enum-known-above
 enum-known-above c = search needs
 
-cast-t20 : tie.Need-cast-t20
-cast-t20 c =
-    let a = c .before .before .before in
-    record { fits = omega (arith, first-tone a (c .before .above .given .1) .0, a .before .before .before .before .before .before .before .before .before .before .pre .size-high) }
+cast-t22 : tie.Need-cast-t22
+cast-t22 c =
+    let f = c .before .before .before in
+    let L = f .before .before .before .before .before .pre .loadable in
+    record { fits = omega (arith, first-tone L _ (f .before .if2 .left) _ (f .first-above .ensures) (c .before .above .given .1), L .in-range .count-high) }
 
 enum-told : tie.Need-enum-told
 enum-told c = search needs
 
-refit-requires : tie.Need-refit-requires
-refit-requires c κs =
-    let a = c .before .before in
-    (a .before .before .before .before .before .before .before .before .before .before .pre, a .before .before .before .flatten .ensures, keeps a (c .enum-told .given .1))
+from-start-requires : tie.Need-from-start-requires
+from-start-requires c κs =
+    let f = c .before .before in
+    let L = f .before .before .before .before .before .pre .loadable in
+    (omega (arith, f .before .if2 .left, L .in-range .count-high), start-in-range L _ (f .before .if2 .left) _ (f .first-above .ensures) (c .enum-told .given .1))
 
-write-requires : tie.Need-write-requires
-write-requires c κs =
-    let a = c .before .before .before .before .before .before in
-    (a .before .before .before .before .before .before .before .before .before .before .pre, a .before .before .before .flatten .ensures, record { table = _; stands = c .before .before .before .refit .ensures .stands }, a .before .before .before .before .before .before .if1 .left)
+run-requires : tie.Need-run-requires
+run-requires c κs =
+    let f = c .before .before .before in
+    let k = f .before .before .before .before .before in
+    let L = k .pre .loadable in
+    runnable L (start-stands L _ (f .before .if2 .left) _ (f .first-above .ensures) (c .before .enum-told .given .1) (c .from-start .ensures (k .args .limits .now)))
+
+put-table-requires : tie.Need-put-table-requires
+put-table-requires c κs =
+    let e = c .before .before .before .before in
+    let f = e .before .before .before .before in
+    let k = f .before .before .before .before .before in
+    let L = k .pre .loadable in
+    let S = start-stands L _ (f .before .if2 .left) _ (f .first-above .ensures) (e .before .before .enum-told .given .1) (e .before .from-start .ensures (k .args .limits .now)) in
+    (L .in-range .count-high, (writable L (e .run .ensures _ _ S .stands), f .before .before .if1 .left))
 
 total-bits-requires : tie.Need-total-bits-requires
-total-bits-requires c κs = omega (arith, c .before .before .before .before .before .before .before .before .before .before .before .before .before .before .before .before .before .before .before .before .pre .size-high)
+total-bits-requires c κs =
+    let e = c .before .before .before .before .before .before .before .before in
+    e .before .before .before .before .before .before .before .before .before .pre .loadable .in-range .count-high
 
 returns-3 : tie.Need-returns-3
-returns-3 c =
-    let a = c .before .before .before in
-    refit-refused _ (refit-above _ _ _ (a .before .before .before .before .before .before .if1 .left) (a .before .before .before .before .if2 .left) (sym (found-is a) ∙ ap found (c .before .above .given .1)))
+returns-3 c = λ T L.
+    let f = c .before .before .before in
+    let k = f .before .before .before .before .before in
+    refit-refused (refitUpTo (k .args .most) T (k .args .budget) (k .args .start .now)) _
+    (refit-above L _ _ _ (f .before .before .if1 .left) (f .before .if2 .left) (found-above L _ (f .before .if2 .left) _ (f .first-above .ensures) (c .before .above .given .1)))
 
 same-length : tie.Need-same-length
 same-length c = search needs
 
 returns-4 : tie.Need-returns-4
-returns-4 c =
-    let a = c .before .before .before .before .before .before .before .before .before .before .before in
-    let e = c .before .before .before .before .before .before .before .before .refit .ensures in
-    refit-done
-    (refit-fits _ _ _ (a .before .before .before .before .before .before .if1 .left) (a .before .before .before .before .if2 .left) (sym (found-is a) ∙ ap found (c .before .before .before .before .before .before .before .before .before .enum-told .given .1)))
-    (record { stands = e .stands; added-up = c .total-bits .ensures; written = c .before .before .before .before .write .ensures _ (e .stands) })
-    (e .counted)
+returns-4 c = λ T L.
+    let e = c .before .before .before .before .before .before .before .before .before in
+    let f = e .before .before .before .before in
+    let k = f .before .before .before .before .before in
+    let m = f .before .if2 .left in
+    let h = f .before .before .if1 .left in
+    let A : Arrays = arrays (k .args .limits .now) (k .args .costs .now) (k .args .doublings .now) in
+    let S = start-stands {A = A} L _ m _ (f .first-above .ensures) (e .before .before .enum-told .given .1) (e .before .from-start .ensures (k .args .limits .now)) in
+    let E = e .run .ensures T (k .args .start .now) S in
+    refit-done {A = A}
+    (record {
+      stands = E .stands;
+      added-up = c .total-bits .ensures;
+      room = h;
+      written = c .before .before .before .before .put-table .ensures (k .args .limits .now);
+    })
+    (refitUpTo (k .args .most) T (k .args .budget) (k .args .start .now))
+    (refit-fits {A = A} L _ _ _ h m (none-above {A = A} L _ m _ (f .first-above .ensures) (e .before .before .enum-told .given .1)))
+    (E .counted)
 
 pub refit-spec : {M : Type 1} → statement M
 refit-spec =
     tie.close
     (tie.spec
-    cast-if1
     mul-if1
     returns
-    cast-if2
     returns-2
-    flatten-requires
     first-above-requires
     enum-known-above
-    cast-t20
+    cast-t22
     enum-told
-    refit-requires
-    write-requires
+    from-start-requires
+    run-requires
+    put-table-requires
     total-bits-requires
     returns-3
     same-length

@@ -1,26 +1,28 @@
--- `lineloads::target` meets its contract. Assumes nothing.
+-- `loadings::target` meets its contract. Assumes nothing.
 use mathlib.Core.Path.{refl, sym, _∙_}
+use Rattle.steps.specs.Tones.{noBits}
+use Rattle.line.specs.Arrays.{Arrays, arrays}
+use Rattle.line.proofs.Arrays.{stands-bits}
+use Rattle.loadings.specs.Loads.{targetOn}
+use Rattle.loadings.proofs.Runs.{runnable, none-stands, writable, carried-by, missed-by}
+use Rattle.loadings.proofs.Outcomes.{load-refused, load-done, target-short, target-missed, target-carried}
 use borrow.Author.Needs.{needs}
-use Rattle.lineruns.proofs.Standing.{stands-bits}
-use Rattle.lineloads.proofs.Runs.{carried-by, missed-by}
-use Rattle.lineloads.proofs.Outcomes.{load-refused, load-done, target-short, target-missed, target-carried}
-use Rattle.lineloads.proofs.target.Statement.{statement}
-use Rattle.lineloads.proofs.target.Tie as tie
-
-cast-if1 : tie.Need-cast-if1
-cast-if1 c = search needs
+use Rattle.loadings.proofs.target.Statement.{statement}
+use Rattle.loadings.proofs.target.Tie as tie
 
 mul-if1 : tie.Need-mul-if1
 mul-if1 c = search needs
 
 returns : tie.Need-returns
-returns c = load-refused _ (target-short _ _ (c .if1 .taken))
+returns c = λ T L. load-refused (targetOn T _ _) _ (target-short L _ _ (c .if1 .taken))
 
-flatten-requires : tie.Need-flatten-requires
-flatten-requires c κs = search needs
+no-bits-requires : tie.Need-no-bits-requires
+no-bits-requires c κs = search needs
 
-add-requires : tie.Need-add-requires
-add-requires c κs = (c .before .before .before .before .pre, c .flatten .ensures)
+run-requires : tie.Need-run-requires
+run-requires c κs =
+    let L = c .before .before .before .pre .loadable in
+    runnable L (none-stands L (c .no-bits .ensures))
 
 enum-told : tie.Need-enum-told
 enum-told c = search needs
@@ -28,42 +30,51 @@ enum-told c = search needs
 enum-told-2 : tie.Need-enum-told-2
 enum-told-2 c = search needs
 
-write-requires : tie.Need-write-requires
-write-requires c κs =
-    let a = c .before .before .before .before in
-    (a .before .before .before .before .before .pre, a .before .flatten .ensures, record { table = _; stands = a .add .ensures .stands }, a .before .before .if1 .left)
+put-table-requires : tie.Need-put-table-requires
+put-table-requires c κs =
+    let e = c .before .before .before .before .before .before in
+    let L = e .before .before .before .before .pre .loadable in
+    (L .in-range .count-high, (writable L (e .run .ensures _ _ (none-stands L (e .before .no-bits .ensures)) .stands), e .before .before .if1 .left))
 
--- the last step found nothing to take: the target is not carried
 returns-2 : tie.Need-returns-2
-returns-2 c =
-    let a = c .before .before in
-    let k = a .before .before .before .before .before in
-    load-refused _ (target-missed _ _ (k .pre) (a .before .before .if1 .left) refl (missed-by _ (k .pre) _ (sym (a .add .ensures .answered) ∙ c .enum-told .given .1)))
+returns-2 c = λ T L.
+    let e = c .before .before in
+    let k = e .before .before .before .before in
+    let E = e .run .ensures T (noBits T) (none-stands L (e .before .no-bits .ensures)) in
+    load-refused (targetOn T (k .args .budget) (k .args .target)) _
+    (target-missed L _ _ (e .before .before .if1 .left) refl (missed-by L _ _ (E .progressed) (c .enum-told .given .1)))
 
 same-length : tie.Need-same-length
 same-length c = search needs
 
--- every step moved: it is
 returns-3 : tie.Need-returns-3
-returns-3 c =
-    let a = c .before .before .before .before .before .before .before in
-    let k = a .before .before .before .before .before in
-    let S = a .add .ensures .stands in
-    let all = carried-by _ (k .pre) _ (sym (a .add .ensures .answered) ∙ c .before .before .before .before .before .enum-told2 .given .1) in
-    load-done (target-carried _ _ (k .pre) (a .before .before .if1 .left) refl all) (record { stands = S; added-up = sym (stands-bits S ∙ all); written = c .before .before .write .ensures _ S })
+returns-3 c = λ T L.
+    let e = c .before .before .before .before .before .before .before .before .before in
+    let k = e .before .before .before .before in
+    let h = e .before .before .if1 .left in
+    let A : Arrays = arrays (k .args .limits .now) (k .args .costs .now) (k .args .doublings .now) in
+    let E = e .run .ensures T (noBits T) (none-stands L (e .before .no-bits .ensures)) in
+    let all = carried-by L _ _ (E .progressed) (c .before .before .before .before .before .before .before .enum-told2 .given .1) in
+    load-done {A = A}
+    (record {
+      stands = E .stands;
+      added-up = sym (stands-bits {A = A} (E .stands) ∙ all);
+      room = h;
+      written = c .before .before .put-table .ensures (k .args .limits .now);
+    })
+    (targetOn T (k .args .budget) (k .args .target)) (target-carried L _ _ h refl all)
 
 pub target-spec : {M : Type 1} → statement M
 target-spec =
     tie.close
     (tie.spec
-    cast-if1
     mul-if1
     returns
-    flatten-requires
-    add-requires
+    no-bits-requires
+    run-requires
     enum-told
     enum-told-2
-    write-requires
+    put-table-requires
     returns-2
     same-length
     returns-3)
