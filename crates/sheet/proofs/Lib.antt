@@ -3,3 +3,4 @@ pub mod Sound
 pub mod Notes
 pub mod Turns
 pub mod Uses
+pub mod Counts
