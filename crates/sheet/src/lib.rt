@@ -50,19 +50,14 @@ fn read_commands(s: &[u8], places: &mut [u16; TONES], maps: &mut [u32; WORDS]) -
                 }
                 return Read::Accepted(header);
             }
-            Command::Refused(refusal) => {
-                return Read::Refused(refusal);
-            }
+            Command::Refused(refusal) => return Read::Refused(refusal),
             Command::Head(h) => {
                 header = h;
                 stage += 1;
             }
-            Command::Describe(i) => {
-                places[i as usize] = at as u16;
-            }
+            Command::Describe(i) => places[i as usize] = at as u16,
             Command::Silence(word, map) => {
-                let joined = maps[word as usize] | map;
-                maps[word as usize] = joined;
+                maps[word as usize] |= map;
             }
         }
         at = next;

@@ -53,8 +53,8 @@ decode-requires c κs = search needs
 enum-told : tie.Need-enum-told Inv-loop μ-loop
 enum-told c = search needs
 
-cast-t23 : tie.Need-cast-t23 Inv-loop μ-loop
-cast-t23 c = let k = known (c .before .before .before) _ (c .before .enum-told .given .1) in record { fits = omega arith }
+cast-t22 : tie.Need-cast-t22 Inv-loop μ-loop
+cast-t22 c = let k = known (c .before .before .before) _ (c .before .enum-told .given .1) in record { fits = omega arith }
 
 returns : tie.Need-returns Inv-loop μ-loop
 returns c = on-more (c .before .before .before .before .before .before .loop .inv) (met (c .before .before .before)) (c .before .enum-told .given .1) (c .if1 .taken)
@@ -92,20 +92,14 @@ element-write-places c = let k = known (c .before .before .before) _ (c .before 
 enum-known-command-4 : tie.Need-enum-known-command-4 Inv-loop μ-loop
 enum-known-command-4 c = search needs
 
-cast-joined : tie.Need-cast-joined Inv-loop μ-loop
-cast-joined c = search needs
-
-mul-joined : tie.Need-mul-joined Inv-loop μ-loop
-mul-joined c = let k = known (c .before .before .before) _ (c .before .command4 .given .1) in record { fits = omega arith }
-
-element-copy-out-joined : tie.Need-element-copy-out-joined Inv-loop μ-loop
-element-copy-out-joined c = let k = known (c .before .before .before) _ (c .before .command4 .given .1) in omega arith
-
 cast-maps : tie.Need-cast-maps Inv-loop μ-loop
 cast-maps c = search needs
 
 mul-maps : tie.Need-mul-maps Inv-loop μ-loop
-mul-maps c = let k = known (c .before .before .before .before) _ (c .before .before .command4 .given .1) in record { fits = omega arith }
+mul-maps c = let k = known (c .before .before .before) _ (c .before .command4 .given .1) in record { fits = omega arith }
+
+element-copy-out-maps : tie.Need-element-copy-out-maps Inv-loop μ-loop
+element-copy-out-maps c = let k = known (c .before .before .before) _ (c .before .command4 .given .1) in omega arith
 
 element-write-maps : tie.Need-element-write-maps Inv-loop μ-loop
 element-write-maps c = let k = known (c .before .before .before .before) _ (c .before .before .command4 .given .1) in omega arith
@@ -140,7 +134,7 @@ read-commands-spec =
     element-copy-out-decode
     decode-requires
     enum-told
-    cast-t23
+    cast-t22
     returns
     returns-2
     enum-known-command
@@ -153,11 +147,9 @@ read-commands-spec =
     mul-places
     element-write-places
     enum-known-command-4
-    cast-joined
-    mul-joined
-    element-copy-out-joined
     cast-maps
     mul-maps
+    element-copy-out-maps
     element-write-maps
     loop-less
     loop-again
