@@ -3,3 +3,5 @@ pub mod Sound
 pub mod Notes
 pub mod Turns
 pub mod Uses
+pub mod Counts
+pub mod Formats

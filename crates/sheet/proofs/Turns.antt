@@ -1,4 +1,8 @@
--- The reading, command by command: what remains of it gives what the whole gives, and the arrays index the line so far.
+-- The reading, command by command: what remains of it gives what the whole gives, and the arrays index the line so far. Laws:
+--   starts                             it starts with empty arrays
+--   said                               what is known of the command that was decoded
+--   on-head, on-describe, on-silence   it goes on after a command
+--   on-refused, on-more, on-end        it ends with one
 -- Assumes nothing.
 use mathlib.Core.List.{List}
 use mathlib.Core.Path.{_≡_, refl, ap, sym, _∙_}
@@ -160,12 +164,12 @@ module _ {s places maps : List ℕ} {h : Header} {at stage : ℕ} (g : Going s p
       rw (add-one stage)
       (goes-on (bareLine h′) (k .there) (simp f) (sized-bare h′) refl (notes-head s (g .empty (k .early)) h′) (λ l. g .empty (omega arith)) (omega arith) (omega arith))
 
-  pub on-describe : (i : ℕ) → i < mostTones → d .command ≡ Describe i → Going s (set places i at) maps h (d .next) stage
+  pub on-describe : (i : ℕ) → addressed s at < mostTones → d .command ≡ Describe i → Going s (set places i at) maps h (d .next) stage
   on-describe i small f =
       let k = said _ f in
       goes-on (effect (Describe i) s at (g .line)) (k .there) (simp f)
       (record { entries-sized = length-set (g .line .entries) i _ ∙ g .sized .entries-sized; maps-sized = g .sized .maps-sized }) (g .header-is)
-      (notes-describe s (g .index) at i small (omega (arith, k .of-line, g .sized .entries-sized)) (omega arith) (record { code = k .code; tone = sym (k .tone); inside = k .whole }))
+      (notes-describe s (g .index) at i (omega (arith, k .tone)) (omega (arith, k .of-line, g .sized .entries-sized)) (omega arith) (record { code = k .code; tone = sym (k .tone); inside = k .whole }))
       (λ l. absurd (omega arith)) (g .low) (omega arith)
 
   pub on-silence : (word map : ℕ) → map < 2 ^ 32 → d .command ≡ Silence word map → Going s places (joined maps word map) h (d .next) stage

@@ -1,16 +1,14 @@
 -- What a caller has of what reading answers and leaves: the line that the sheet means, where its tones stand, and its ranges.
 -- Assumes nothing.
-use mathlib.Core.Bool.{false}
 use mathlib.Core.List.{List}
 use mathlib.Core.Path.{_≡_, refl, ap, sym, _∙_}
 use Prim.Native.Nat.{ℕ, zero, suc, _/_, _%_, _≤_}
 use native.Mathlib.Omega.{arith}
 use borrow.Author.Tests.{lt-ltb}
 use lib.Dec.{ltb, eqb}
-use lib.ListN.{getD}
-use Rattle.sizes.specs.Sizes.{mostTones, wordTones}
-use Rattle.silence.specs.Map.{bit, silenced, count}
-use Rattle.silence.proofs.Maps.{count-same, count-past}
+use lib.ListN.{getD, replicate}
+use Rattle.sizes.specs.Sizes.{mostTones, mostWords, wordTones}
+use Rattle.silence.specs.Map.{bit, silenced}
 use Rattle.line.specs.Line.{Line, LineInRange, isDescribed, entryOf}
 use Rattle.command.specs.declared.Refusal.{Refusal}
 use Rattle.command.specs.declared.Header.{Header}
@@ -18,8 +16,8 @@ use Rattle.command.specs.Places.{entryAt}
 use Rattle.sheet.specs.declared.Read.{Read}
 use Rattle.sheet.specs.declared.Read.the-variants as read
 use Rattle.sheet.specs.Reading.{Meaning, accepted, refused, headerOf, reading}
-use Rattle.sheet.specs.Check.{describedCount, silencedCount}
-use Rattle.sheet.specs.Index.{Indexes, Leaves, ReadsAs, Indexed}
+use Rattle.sheet.specs.Index.{Indexes, Leaves, ReadsAs, Indexed, answerOf}
+use Rattle.sheet.proofs.Turns.{Ended}
 use Rattle.sheet.proofs.Sound.{Bytes, Sound, accepted-sound}
 
 -- a tone is described if its place is not 0
@@ -28,7 +26,28 @@ described-at s zero = refl
 described-at s (suc p) = sym (lt-ltb 0 (suc p) (omega arith))
 
 module _ {s places maps : List ℕ} where
-  -- ---- what reading answers
+  -- ---- what reading answers and leaves
+
+  pub leaves-accepted : {r : Read} {h : Header} → Ended s r places maps → r ≡ read.Accepted h → ReadsAs s (read.Accepted h) places maps (reading s)
+  leaves-accepted {r} {h} x e = by (reading s) (sym e ∙ x .0) (x .1)
+    where
+      by : (m : Meaning) → read.Accepted h ≡ answerOf m → ((l : Line) → m ≡ accepted l → Indexes s places maps l) → ReadsAs s (read.Accepted h) places maps m
+      by (accepted l) f index = record { leaves = (f, index l refl) }
+      by (refused q) f index =
+          let z : _≡_ {A = ℕ} 0 1 = cc in
+          absurd (omega arith)
+
+  pub leaves-refused : {r : Read} {q : Refusal} → Ended s r places maps → r ≡ read.Refused q
+      → ReadsAs s (read.Refused q) (replicate mostTones 0) (replicate mostWords 0) (reading s)
+  leaves-refused {r} {q} x e = by (reading s) (sym e ∙ x .0)
+    where
+      by : (m : Meaning) → read.Refused q ≡ answerOf m → ReadsAs s (read.Refused q) (replicate mostTones 0) (replicate mostWords 0) m
+      by (accepted l) f =
+          let z : _≡_ {A = ℕ} 0 1 = cc in
+          absurd (omega arith)
+      by (refused q′) f = record { leaves = (f, refl, refl) }
+
+  -- ---- what a caller learns of it
 
   pub indexed : {r : Read} {h : Header} → ReadsAs s r places maps (reading s) → r ≡ read.Accepted h → Indexed s h places maps
   indexed {r} {h} x e = by (reading s) refl (x .leaves)
@@ -62,20 +81,6 @@ module _ {s places maps : List ℕ} where
 
     pub silenced-here : (i : ℕ) → silenced (l .maps) i ≡ silenced maps i
     silenced-here i = ap (λ (m : ℕ). eqb (bit m (i % wordTones)) 1) (x .map (i / wordTones))
-
-    pub described-count : describedCount l ≡ count (l .size) (λ i. ltb 0 (getD places i 0))
-    described-count = count-same (l .size) _ _ (λ i h. described-here i)
-
-    -- no tone from N on is silenced, so that all that the maps have can be counted
-    pub silenced-count : Sound l → silencedCount l ≡ count mostTones (silenced maps)
-    silenced-count z =
-        sym (count-past (l .size) mostTones (silenced (l .maps)) (z .in-range .size-high) beyond)
-        ∙ count-same mostTones _ _ (λ i h. silenced-here i)
-      where
-        beyond : (i : ℕ) → l .size ≤ i → silenced (l .maps) i ≡ false
-        beyond i h =
-            let clear : bit (getD (l .maps) (i / wordTones) 0) (i % wordTones) ≡ 0 = z .maps-within (i / wordTones) (i % wordTones) (omega arith) in
-            ap (λ (b : ℕ). eqb b 1) clear
 
   module _ {h : Header} (x : Indexed s h places maps) where
     pub size-is : x .line .size ≡ h .size

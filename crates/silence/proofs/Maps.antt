@@ -5,6 +5,7 @@ use mathlib.Core.List.{List}
 use mathlib.Core.Path.{_≡_, refl, ap, sym, _∙_}
 use Prim.Native.Nat.{ℕ, zero, suc, _+_, _*_, _-_, _/_, _%_, _^_, _≤_, _<_, max}
 use native.Mathlib.Nat.{eq-or-lt-of-le, le-of-suc-le-suc, not-suc-le-zero, mod-lt, mod-eq-of-lt, zero-div, div-eq-of-lt, lt-of-lt-of-le, add-comm, add-assoc, add-suc, add-zero}
+use native.Mathlib.Numerals.{add-one}
 use native.Mathlib.Omega.{arith}
 use borrow.Author.Tests.{eqb-true, eqb-false, eq-eqb, ne-eqb, leb-true, ltb-true, ltb-false, le-leb, not-false}
 use lib.Bits.{bitOr, or-shr, or-step, or-lt}
@@ -116,6 +117,11 @@ count-past n m test h past =
     ∙ count-add n (m - n) test
     ∙ ap (λ (k : ℕ). count n test + k) (count-same (m - n) _ _ (λ k l. past (n + k) (omega arith)) ∙ count-none (m - n))
     ∙ add-zero (count n test)
+
+-- one number more
+pub count-more : (n : ℕ) (test : ℕ → Bool) → count (n + 1) test ≡ count n test + one (test n)
+unfolding count
+count-more n test = ap (λ (k : ℕ). count k test) (add-one n)
 
 -- Tones that are `size` or more
 
