@@ -1,2 +1,6 @@
 pub mod Walk
 pub mod Sound
+pub mod Notes
+pub mod Turns
+pub mod Uses
+pub mod Counts

@@ -29,6 +29,11 @@ pub record Indexes (s places maps : List ℕ) (l : Line) : Type 0 where
   pub stands : (i : ℕ) → 0 < getD places i 0 → ToneStands s i (getD places i 0)
   pub map : (word : ℕ) → getD (l .maps) word 0 ≡ getD maps word 0
 
+-- what reading answers: the line's header, or the refusal
+abbrev pub answerOf : Meaning → Read
+answerOf (accepted l) = read.Accepted (headerOf l)
+answerOf (refused q) = read.Refused q
+
 -- What reading answers and leaves: the line's header and its index, or the refusal and an empty index.
 abbrev pub Leaves : List ℕ → Read → (places maps : List ℕ) → Meaning → Type 0
 Leaves s r places maps (accepted l) = (r ≡ read.Accepted (headerOf l)) × Indexes s places maps l

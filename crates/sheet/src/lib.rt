@@ -3,13 +3,14 @@
 ghost use mathlib.Core.Path.{_≡_};
 ghost use Prim.Native.Nat.{_≤_, _<_};
 ghost use lib.Dec.{ltb};
-ghost use lib.ListN.{getD};
-ghost use Rattle.sizes.specs.Sizes.{mostTones};
+ghost use lib.ListN.{getD, replicate};
+ghost use Rattle.sizes.specs.Sizes.{mostTones, mostWords};
 ghost use Rattle.lists.specs.Lent.{before, after};
 ghost use Rattle.silence.specs.Map.{count};
+ghost use Rattle.line.specs.Line.{Line};
 ghost use Rattle.sheet.specs.Check.{checking, checkNumbers, checkOutcome};
-ghost use Rattle.sheet.specs.Index.{ReadsAs};
-ghost use Rattle.sheet.specs.Reading.{reading};
+ghost use Rattle.sheet.specs.Index.{Indexes, ReadsAs, answerOf};
+ghost use Rattle.sheet.specs.Reading.{accepted, reading};
 use command::Command;
 use command::Header;
 use command::Refusal;
@@ -22,8 +23,14 @@ pub enum Read {
     Refused(Refusal),
 }
 
-// Reads the commands of a sheet one after the other, and notes where each tone's stands and which tones the maps silence.
-fn read_commands(s: &[u8], places: &mut [u16; TONES], maps: &mut [u32; WORDS]) -> Read {
+// Reads the commands of a sheet one after the other, and notes where each tone's stands and which tones the maps silence. After a
+// refusal the arrays are as far as it was read.
+fn read_commands(s: &[u8], places: &mut [u16; TONES], maps: &mut [u32; WORDS]) -> Read
+    requires { ⌜ now places ≡ replicate mostTones 0 ⌝ }
+    requires { ⌜ now maps ≡ replicate mostWords 0 ⌝ }
+    ensures answer { λ r. ⌜ r ≡ answerOf (reading (before s)) ⌝ }
+    ensures index { λ r. ⌜ ((l : Line) → reading (before s) ≡ accepted l → Indexes (before s) (after places) (after maps) l) ⌝ }
+{
     let mut header = Header {
         size: 0,
         gap: 0,
@@ -43,19 +50,14 @@ fn read_commands(s: &[u8], places: &mut [u16; TONES], maps: &mut [u32; WORDS]) -
                 }
                 return Read::Accepted(header);
             }
-            Command::Refused(refusal) => {
-                return Read::Refused(refusal);
-            }
+            Command::Refused(refusal) => return Read::Refused(refusal),
             Command::Head(h) => {
                 header = h;
                 stage += 1;
             }
-            Command::Describe(i) => {
-                places[i as usize] = at as u16;
-            }
+            Command::Describe(i) => places[i as usize] = at as u16,
             Command::Silence(word, map) => {
-                let joined = maps[word as usize] | map;
-                maps[word as usize] = joined;
+                maps[word as usize] |= map;
             }
         }
         at = next;
@@ -64,7 +66,7 @@ fn read_commands(s: &[u8], places: &mut [u16; TONES], maps: &mut [u32; WORDS]) -
 
 // Reads a sheet: its header, or the first refusal that it meets. If it is accepted the arrays then index its line, whatever they held
 // before; if it is refused they are empty.
-pub fn read(s: &[u8], places: &mut [u16; TONES], maps: &mut [u32; WORDS]) -> Read
+pub fn read_sheet(s: &[u8], places: &mut [u16; TONES], maps: &mut [u32; WORDS]) -> Read
     ensures { λ r. ⌜ ReadsAs (before s) r (after places) (after maps) (reading (before s)) ⌝ }
 {
     *places = [0; TONES];
@@ -109,7 +111,7 @@ pub fn check(s: &[u8]) -> Checked
 {
     let mut places: [u16; TONES] = [0; TONES];
     let mut maps: [u32; WORDS] = [0; WORDS];
-    let read = read(s, &mut places, &mut maps);
+    let read = read_sheet(s, &mut places, &mut maps);
     match read {
         Read::Refused(refusal) => Checked::Refused(refusal),
         Read::Accepted(header) => {

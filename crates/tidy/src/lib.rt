@@ -61,7 +61,7 @@ pub fn tidy(s: &[u8], out: &mut [u8]) -> Tidied
 {
     let mut places: [u16; TONES] = [0; TONES];
     let mut maps: [u32; WORDS] = [0; WORDS];
-    let read = sheet::read(s, &mut places, &mut maps);
+    let read = sheet::read_sheet(s, &mut places, &mut maps);
     match read {
         Read::Refused(refusal) => Tidied::Refused(refusal),
         Read::Accepted(header) => {
