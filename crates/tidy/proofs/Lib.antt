@@ -1,2 +1,3 @@
-pub mod Outcomes
+pub mod Copies
 pub mod Writes
+pub mod Index

@@ -1,8 +1,9 @@
 // Tidying a sheet: document 01, 'The line sheet'.
 mod writer;
 
+ghost use mathlib.Core.List.{List};
 ghost use mathlib.Core.Path.{_≡_};
-ghost use Prim.Native.Nat.{_≤_};
+ghost use Prim.Native.Nat.{ℕ, _≤_};
 ghost use lib.ListN.{length};
 ghost use Rattle.sizes.specs.Sizes.{mostTones, mostWords};
 ghost use Rattle.lists.specs.Lent.{before, after};
@@ -15,9 +16,10 @@ use sheet::Read;
 use sizes::TONES;
 use sizes::WORDS;
 
-// How many bytes the described tones take.
+// How many bytes the described tones take, in any sheet.
 fn tones_bytes(size: u16, places: &[u16; TONES]) -> usize
     requires { ⌜ size ≤ mostTones ⌝ }
+    ensures { λ r. ⌜ ((s : List ℕ) → r ≡ length (copies size s (before places))) × (r ≤ 3840) ⌝ }
 {
     let mut bytes: usize = 0;
     let mut i: u16 = 0;

@@ -1,12 +1,15 @@
 // The tidy form of a line, written into a lent buffer: document 01, 'The line sheet'.
 ghost use mathlib.Core.Path.{_≡_};
-ghost use Prim.Native.Nat.{_+_, _≤_};
-ghost use lib.ListN.{length};
+ghost use Prim.Native.Nat.{ℕ, _+_, _≤_};
+ghost use lib.ListN.{length, getD};
 ghost use lib.Seq.{sets};
-ghost use Rattle.sizes.specs.Sizes.{mostWords};
+ghost use Rattle.sizes.specs.Sizes.{mostTones, mostWords};
 ghost use Rattle.lists.specs.Lent.{before, after};
-ghost use Rattle.tidyform.specs.Tidy.{wordBytes, mapBytes};
-ghost use Rattle.tidy.specs.Copies.{part};
+ghost use Rattle.line.specs.Line.{Line};
+ghost use Rattle.sheet.specs.Reading.{accepted, reading};
+ghost use Rattle.sheet.specs.Index.{Indexed};
+ghost use Rattle.tidyform.specs.Tidy.{wordBytes, mapBytes, tidy};
+ghost use Rattle.tidy.specs.Copies.{part, Inside, toneCopy, copies};
 use command::Header;
 use sizes::TONES;
 use sizes::WORDS;
@@ -25,7 +28,12 @@ fn copy(s: &[u8], from: usize, width: usize, out: &mut [u8], at: usize)
 }
 
 // The command of the tone that stands at a place of the sheet, if one does. Answers the place after it in the buffer.
-fn put_tone(s: &[u8], place: u16, out: &mut [u8], at: usize) -> usize {
+fn put_tone(s: &[u8], place: u16, out: &mut [u8], at: usize) -> usize
+    requires { ⌜ Inside (now s) place ⌝ }
+    requires { ⌜ at + length (toneCopy (now s) place) ≤ length (now out) ⌝ }
+    ensures place { λ r. ⌜ r ≡ at + length (toneCopy (before s) place) ⌝ }
+    ensures bytes { λ r. ⌜ after out ≡ sets (before out) at (toneCopy (before s) place) ⌝ }
+{
     if place < 1 {
         return at;
     }
@@ -34,7 +42,13 @@ fn put_tone(s: &[u8], place: u16, out: &mut [u8], at: usize) -> usize {
 }
 
 // The described tones in rising number, from a place on. Answers the place after them.
-fn put_tones(s: &[u8], size: u16, places: &[u16; TONES], out: &mut [u8], at: usize) -> usize {
+fn put_tones(s: &[u8], size: u16, places: &[u16; TONES], out: &mut [u8], at: usize) -> usize
+    requires { ⌜ size ≤ mostTones ⌝ }
+    requires { ⌜ ((i : ℕ) → Inside (now s) (getD (now places) i 0)) ⌝ }
+    requires { ⌜ at + length (copies size (now s) (now places)) ≤ length (now out) ⌝ }
+    ensures place { λ r. ⌜ r ≡ at + length (copies size (before s) (before places)) ⌝ }
+    ensures bytes { λ r. ⌜ after out ≡ sets (before out) at (copies size (before s) (before places)) ⌝ }
+{
     let mut place = at;
     let mut i: usize = 0;
     while i < size as usize {
@@ -81,7 +95,11 @@ pub(crate) fn put_line(
     header: Header,
     places: &[u16; TONES],
     maps: &[u32; WORDS],
-) {
+)
+    requires { ⌜ Indexed (now s) header (now places) (now maps) ⌝ }
+    requires { ⌜ ((l : Line) → reading (now s) ≡ accepted l → length (tidy l) ≤ length (now out)) ⌝ }
+    ensures { λ r. ⌜ ((l : Line) → reading (before s) ≡ accepted l → after out ≡ sets (before out) 0 (tidy l)) ⌝ }
+{
     out[0] = 1;
     bigendian::put_number(out, 1, 2, header.size as u64);
     out[3] = 2;

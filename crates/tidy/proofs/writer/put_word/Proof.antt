@@ -4,7 +4,7 @@ use Prim.Native.Nat.{_+_, _≤_}
 use native.Mathlib.Omega.{arith}
 use lib.ListN.{length, length-set}
 use Rattle.bigendian.proofs.Numbers.{number-fits}
-use Rattle.sheet.proofs.Parts.{no-word, some-word, length-word}
+use Rattle.tidyform.proofs.Parts.{no-word, some-word, length-word}
 use Rattle.tidy.proofs.Writes.{word-stores}
 use borrow.Author.Needs.{needs}
 use Rattle.tidy.proofs.writer.put_word.Statement.{statement}
