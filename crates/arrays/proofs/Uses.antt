@@ -1,6 +1,7 @@
 -- What a caller has of the arrays of a sheet: the line that they hold, or the sheet's refusal.
 -- Assumes nothing.
-use mathlib.Core.Path.{_≡_, refl}
+use mathlib.Core.List.{List}
+use mathlib.Core.Path.{_≡_, refl, ap, sym}
 use native.Mathlib.Omega.{arith}
 use Prim.Native.Nat.{ℕ}
 use Rattle.line.specs.Line.{Line, LineInRange}
@@ -8,8 +9,19 @@ use Rattle.line.specs.Arrays.{Arrays, ArraysOf}
 use Rattle.command.specs.declared.Refusal.{Refusal}
 use Rattle.command.specs.declared.Header.{Header}
 use Rattle.sheet.specs.declared.Read.the-variants as read
-use Rattle.sheet.specs.Reading.{Meaning, accepted, refused, headerOf}
-use Rattle.arrays.specs.Tones.{LeavesTones, TonesOf}
+use Rattle.sheet.specs.Reading.{Meaning, accepted, refused, headerOf, reading}
+use Rattle.sheet.specs.Index.{Indexed}
+use Rattle.arrays.specs.Tones.{HoldsLineOf, LeavesTones, TonesOf}
+
+-- ---- as the code leaves them
+
+pub tones-held : {s places maps : List ℕ} {h : Header} (old new : Arrays) → Indexed s h places maps → HoldsLineOf (reading s) new → TonesOf (read.Accepted h) old new (reading s)
+tones-held old new x holds = rw (x .means) (record { leaves = (ap read.Accepted (sym (x .header-is)), rw (x .means) at holds) })
+
+pub tones-refused : (A : Arrays) {m : Meaning} {q : Refusal} → m ≡ refused q → TonesOf (read.Refused q) A A m
+tones-refused A e = rw e (record { leaves = (refl, refl) })
+
+-- ---- for a caller
 
 -- the line of a sheet that was accepted, with its arrays
 pub record HeldLine (h : Header) (A : Arrays) (m : Meaning) : Type 0 where

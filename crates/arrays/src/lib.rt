@@ -76,7 +76,7 @@ pub fn read_tones(
 {
     let mut places: [u16; TONES] = [0; TONES];
     let mut maps: [u32; WORDS] = [0; WORDS];
-    let read = sheet::read(s, &mut places, &mut maps);
+    let read = sheet::read_sheet(s, &mut places, &mut maps);
     match read {
         Read::Refused(refusal) => Read::Refused(refusal),
         Read::Accepted(header) => {
