@@ -1,14 +1,15 @@
 -- `tidy::writer::put_line` meets its contract. Assumes nothing.
 use mathlib.Core.Path.{_≡_, _∙_}
-use Prim.Native.Nat.{ℕ, _+_, _≤_}
+use Prim.Native.Nat.{_+_, _≤_}
 use native.Mathlib.Omega.{arith}
 use lib.ListN.{length, length-set}
 use Rattle.sizes.specs.Sizes.{mostWords}
 use Rattle.bigendian.proofs.Numbers.{number-fits}
 use Rattle.sheet.proofs.Sound.{Bytes}
+use Rattle.sheet.proofs.Uses.{size-high}
 use Rattle.tidyform.specs.Tidy.{mapBytes}
 use Rattle.tidy.specs.Copies.{copies}
-use Rattle.tidy.proofs.Index.{size-high, tones-inside, tidy-bytes, tidy-stores}
+use Rattle.tidy.proofs.Index.{tones-inside, tidy-bytes, tidy-stores}
 use borrow.Author.Needs.{needs}
 use Rattle.tidy.proofs.writer.put_line.Statement.{statement}
 use Rattle.tidy.proofs.writer.put_line.Tie as tie
@@ -23,7 +24,7 @@ room : (c : tie.After-shared-slice-known) → (let a = c .before .before .args i
 room c =
     let p = c .before .before .pre in
     let x = p .0 in
-    omega (arith, tidy-bytes (known c) x (x .line) (x .means), p .1 (x .line) (x .means))
+    omega (arith, tidy-bytes x (known c) (x .line) (x .means), p .1 (x .line) (x .means))
 
 -- the buffer keeps its length at each call
 kept : (c : tie.After-put-number) → length (c .put-number .last .0) ≡ length (c .before .before .before .before .before .args .out .now)
@@ -69,7 +70,7 @@ put-tones-requires : tie.Need-put-tones-requires
 put-tones-requires c κs =
     let k = c .before .before .before .before .before .before .before .before .before .before .before .before .before .before .before in
     let x = k .before .before .pre .0 in
-    (size-high (known k) x, (tones-inside (known k) x, rw (kept-3 (c .before .before .before)) (omega (arith, room k))))
+    (size-high x (known k), (tones-inside x, rw (kept-3 (c .before .before .before)) (omega (arith, room k))))
 
 put-words-requires : tie.Need-put-words-requires
 put-words-requires c κs = rw (kept-tones (c .before .before .before)) (omega (arith, c .before .before .before .put-tones .ensures .0, room (c .before .before .before .before .before .before .before .before .before .before .before .before .before .before .before .before .before .before .before)))
@@ -97,7 +98,7 @@ returns c =
       c₂ .put-number2 .ensures ∙ number-fits _ _ _ _ (simp (length-set, kept c₁) (omega (arith, r))),
       c₁ .put-number .ensures ∙ number-fits _ _ _ _ (simp length-set (omega (arith, r))),
     )
-    (tidy-stores (known k) (k .before .before .pre .0) l e (k .before .before .args .out .now)))
+    (tidy-stores (k .before .before .pre .0) (known k) l e (k .before .before .args .out .now)))
 
 pub put-line-spec : {M : Type 1} → statement M
 put-line-spec =
