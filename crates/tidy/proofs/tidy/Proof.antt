@@ -49,11 +49,14 @@ add-bytes-2 c = search needs
 
 returns : tie.Need-returns
 returns c =
-    let x = index (c .before .before .before .before .before .before) in
-    too-small (x .means) (c .before .before .before .before .before .before .before .before .before .before .before .before .before .args .out .now) (counted (c .before) (x .line) (x .means)) (c .if1 .taken)
+    let n = c .before in
+    let x = index (n .before .before .before .before .before) in
+    too-small (x .means) (n .before .before .before .before .before .before .before .before .before .before .before .before .args .out .now) (counted n (x .line) (x .means)) (c .if1 .taken)
 
 put-line-requires : tie.Need-put-line-requires
-put-line-requires c κs = (index (c .before .before .before .before .before .before .before .before .before), λ l e. omega (arith, counted (c .before .before .before .before) l e, c .before .before .before .if1 .left))
+put-line-requires c κs =
+    let i = c .before .before .before in
+    (index (i .before .before .before .before .before .before), λ l e. omega (arith, counted (i .before) l e, i .if1 .left))
 
 returns-2 : tie.Need-returns-2
 returns-2 c = turned-down _ (c .before .before .before .before .before .before .before .before .args .out .now) (refused-is (c .before .before .before .read-sheet .ensures) (c .before .read .given .1))
@@ -63,8 +66,10 @@ same-length c = search needs
 
 returns-3 : tie.Need-returns-3
 returns-3 c =
-    let x = index (c .before .before .before .before .before .before .before .before .before .before .before .before) in
-    let w = written (x .means) (c .before .before .before .before .before .before .before .before .before .before .before .before .before .before .before .before .before .before .before .args .out .now) (counted (c .before .before .before .before .before .before .before) (x .line) (x .means)) (c .before .before .before .before .before .before .if1 .left) in
+    let i = c .before .before .before .before .before .before in
+    let n = i .before in
+    let x = index (n .before .before .before .before .before) in
+    let w = written (x .means) (n .before .before .before .before .before .before .before .before .before .before .before .before .args .out .now) (counted n (x .line) (x .means)) (i .if1 .left) in
     (w .0, (w .1 .0, c .before .before .put-line .ensures (x .line) (x .means) ∙ w .1 .1))
 
 pub tidy-spec : {M : Type 1} → statement M
