@@ -23,8 +23,11 @@ use Rattle.loadings.specs.Loads.{Loading, loaded, turned-down, mostOn, onTarget
 use Rattle.loadings.specs.Refits.{refitOn, refitAnswer, refitNumbers, refitOutcome}
 use Rattle.sheet.specs.Reading.{accepted, reading}
 use Rattle.sheet.proofs.Sound.{Bytes, accepted-sound}
+use Rattle.tidyform.specs.Tidy.{tidy}
+use Rattle.tidyform.proofs.Tidied.{tidy-keeps}
+use Rattle.tidy.specs.Tidying.{afterTidying}
 use Rattle.loader.specs.Calls.{loadMost, loadTarget, refit, oneStep, refitBy}
-use Rattle.loader.specs.Claims.{MostBits, MostBitsOn, SameLoading, Demand3On, TargetMet, TargetOn}
+use Rattle.loader.specs.Claims.{MostBits, MostBitsOn, SameLoading, Demand3On, TargetMet, TargetOn, TidyOn}
 use Rattle.loader.proofs.Outcomes.{LoadPair, RefitPair, whole, single}
 
 module _ (sheet : List ℕ) (b : Bytes sheet) (l : Line) (e : reading sheet ≡ accepted l) (old new : List ℕ) (h : bytesATone * l .size ≤ length old) where
@@ -95,19 +98,27 @@ RefitCall r old new x Rest = (r ≡ refitAnswer x) × ((refitNumbers r ≡ refit
 
 module _ (s : List ℕ) (b : Bytes s) (old new : List ℕ) where
   pub most-call : {r : Loaded} → LoadPair r old new (loadMost s (length old)) → LoadCall r old new (loadMost s (length old)) (MostBitsOn s r old new)
-  most-call p = (p .0, (ap loadNumbers (p .0) ∙ load-numbers _, (p .1, λ l e h. most-bits s b l e old new h (p .0) (p .1))))
+  most-call p = (p .0, (ap loadNumbers (p .0) ∙ load-numbers (loadMost s (length old)), (p .1, λ l e h. most-bits s b l e old new h (p .0) (p .1))))
 
   pub target-call : (target : ℕ) {r : Loaded} → LoadPair r old new (loadTarget s target (length old)) → LoadCall r old new (loadTarget s target (length old)) (TargetOn s target r old)
-  target-call target p = (p .0, (ap loadNumbers (p .0) ∙ load-numbers _, (p .1, λ l e h. target-met s b l e old new h target (p .0))))
+  target-call target p = (p .0, (ap loadNumbers (p .0) ∙ load-numbers (loadTarget s target (length old)), (p .1, λ l e h. target-met s b l e old new h target (p .0))))
 
   pub refit-call : (start : List ℕ) {r : Refitted} → RefitPair r old new (refitBy mostBitsOfAll s start (length old))
       → RefitCall r old new (refit s start (length old)) ((new ≡ afterLoading (refit s start (length old)) old) × Demand3On s start r old new)
   refit-call start {r} x =
       let p : RefitPair r old new (refit s start (length old)) = rw (whole s b start (length old)) at x in
-      (p .0, (ap refitNumbers (p .0) ∙ refit-numbers _, (p .1, λ l e h w. same-loading s b l e old new h start w (p .0) (p .1))))
+      (p .0, (ap refitNumbers (p .0) ∙ refit-numbers (refit s start (length old)), (p .1, λ l e h w. same-loading s b l e old new h start w (p .0) (p .1))))
 
   pub step-call : (start : List ℕ) {r : Refitted} → RefitPair r old new (refitBy 1 s start (length old))
       → RefitCall r old new (oneStep s start (length old)) (new ≡ afterLoading (oneStep s start (length old)) old)
   step-call start {r} x =
       let p : RefitPair r old new (oneStep s start (length old)) = rw (single s start (length old)) at x in
-      (p .0, (ap refitNumbers (p .0) ∙ refit-numbers _, p .1))
+      (p .0, (ap refitNumbers (p .0) ∙ refit-numbers (oneStep s start (length old)), p .1))
+
+-- ---- tidying
+
+pub tidy-call : (s : List ℕ) → Bytes s → (old : List ℕ) {new : List ℕ} → new ≡ afterTidying (reading s) old → TidyOn s old new
+tidy-call s b old {new} n l e h = record {
+  front = ap (take (length (tidy l))) (n ∙ simp (e, le-ltb (length old) (length (tidy l)) h)) ∙ take-at (tidy l) (drop (length (tidy l)) old) (length (tidy l)) refl;
+  keeps = tidy-keeps s b l e;
+}

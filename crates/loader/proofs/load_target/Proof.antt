@@ -26,7 +26,8 @@ unfolding loadTarget
 returns c =
     let t = c .before .before .before in
     let k = t .before .before .before .before .before in
-    target-call _ (λ i. k .shared-slice-known .given i .fits) _ _ _ (load-refused (refusal-is (t .read-tones .ensures) (c .before .read .given .1)) _ _)
+    let a = k .before .args in
+    target-call (a .s .now) (λ i. k .shared-slice-known .given i .fits) (a .table .now) _ (a .target) (load-refused (refusal-is (t .read-tones .ensures) (c .before .read .given .1)) _ _)
 
 same-length : tie.Need-same-length
 same-length c = search needs
@@ -36,7 +37,8 @@ unfolding loadTarget
 returns-2 c =
     let t = c .before .before .before .before .before .before .before .before .before .before in
     let k = t .before .before .before .before .before in
-    target-call _ (λ i. k .shared-slice-known .given i .fits) _ _ _
+    let a = k .before .args in
+    target-call (a .s .now) (λ i. k .shared-slice-known .given i .fits) (a .table .now) _ (a .target)
     (on-held (held (t .read-tones .ensures) (c .before .before .before .before .before .before .before .before .read2 .given .1)) (LoadPair _ _ _) (λ T budget. targetOn T budget _ _) (c .before .before .target .ensures))
 
 pub load-target-spec : {M : Type 1} → statement M
