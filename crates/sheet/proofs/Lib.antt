@@ -4,3 +4,4 @@ pub mod Notes
 pub mod Turns
 pub mod Uses
 pub mod Counts
+pub mod Formats
