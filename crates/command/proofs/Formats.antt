@@ -12,7 +12,7 @@ use Rattle.bigendian.specs.Number.{number}
 use Rattle.command.specs.declared.Refusal.{Refusal}
 use Rattle.command.specs.declared.Header.{Header}
 use Rattle.command.specs.declared.Command.{Command}
-use Rattle.command.specs.Rows.{Seen, Operand, Row, within, map, silence, rowsOf, width, withCode, judged, operandsFrom, rowAt}
+use Rattle.command.specs.Rows.{Seen, Operand, Row, within, silence, rowsOf, width, withCode, judged, operandsFrom, rowAt}
 use Rattle.command.specs.Format.{Format, formatOf, isRefused, Covers, Covered, Within}
 use Rattle.command.proofs.Walk.{in-within}
 
@@ -110,7 +110,7 @@ wider {t} {t′} {w} {w′} tones words bytes = record {
     rows (suc zero) = (same _, tt)
     rows (suc (suc zero)) = (same _, tt)
     rows (suc (suc (suc n))) =
-        let words-wider : Covers (silence w′) (silence w) = covers-wider _ _ _ _ (wider-within 1 0 (omega arith), (wider-same map, tt)) in
+        let words-wider : Covers (silence w′) (silence w) = covers-wider _ _ _ _ (wider-within 1 0 (omega arith), (wider-same _, tt)) in
         (same _, (same _, (record { same-code = refl; covers = words-wider }, (same _, tt))))
 
 pub within-same : (F : Format) → Within F F

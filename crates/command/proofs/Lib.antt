@@ -1,4 +1,4 @@
 pub mod Walk
-pub mod Said
 pub mod Rows
+pub mod Said
 pub mod Formats

@@ -10,8 +10,8 @@ use borrow.Author.Tests.{lt-ltb, le-ltb}
 use lib.Pow.{pow-mono, shl-lt}
 use Rattle.sizes.specs.Sizes.{mostTones, pairCap, mostBitsOfAll}
 use Rattle.steps.specs.Tones.{Tones, Table, _!_, noBits, totalBits, totalPower, sumOfLimits, KeepsLimits, KeepsBudget}
-use Rattle.steps.specs.Runs.{Answer, moved, finished, addStep, refitStep, Ran, follow, run, mostBits, refitRun, carrying, setBits}
-use Rattle.steps.proofs.Enough.{moves-at-most, most-bits-enough, refit-enough, set-bits-adds, bits-are-moves}
+use Rattle.steps.specs.Runs.{Answer, moved, finished, addStep, Ran, follow, run, mostBits, carrying, setBits}
+use Rattle.steps.proofs.Enough.{moves-at-most, most-bits-enough, set-bits-adds, bits-are-moves}
 use Rattle.steps.proofs.Sums.{sum-at-most}
 use Rattle.line.specs.Arrays.{Arrays, limitAt, costAt, doublingsAt, powerAt, ArraysInRange, PowersInRange, Describes}
 use Rattle.line.proofs.Arrays.{no-bits-stand, stands-under, shift-under}
@@ -81,9 +81,6 @@ module _ {count : ℕ} {A : Arrays} {T : Tones} (L : Loadable count A T) where
 
     pub target-run : (target : ℕ) → setBits T budget target ≡ carrying T target (run (addStep T budget) target (noBits T) .table)
     target-run = set-bits-adds T (L .rising) budget none-fits
-
-    pub refit-run : {t : Table} → KeepsLimits T t → run (refitStep T budget) mostBitsOfAll t ≡ refitRun T budget t
-    refit-run w = refit-enough T (L .rising) budget none-fits w mostBitsOfAll limits-high
 
 -- ---- what the last step of a run answers
 

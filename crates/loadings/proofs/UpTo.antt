@@ -4,20 +4,20 @@ use mathlib.Core.Bool.{Bool, true, false, cond}
 use mathlib.Core.List.{List}
 use mathlib.Core.Option.{Option, none, some}
 use mathlib.Core.Path.{_≡_, refl, ap}
-use Prim.Native.Nat.{ℕ}
+use Prim.Native.Nat.{ℕ, _≤_}
 use borrow.Author.Tests.{eqb-true}
 use lib.Dec.{eqb}
 use lib.ListN.{length}
 use Rattle.sizes.specs.Sizes.{mostBitsOfAll}
-use Rattle.steps.specs.Tones.{Tones, KeepsLimits}
+use Rattle.steps.specs.Tones.{Tones, Rising, noBits, sumOfLimits, KeepsLimits, KeepsBudget}
 use Rattle.steps.specs.Runs.{Ran, refitStep}
-use Rattle.line.specs.Arrays.{Arrays}
+use Rattle.steps.proofs.Enough.{refit-enough}
 use Rattle.command.specs.declared.Refusal.the-variants.{StartLengthWrong}
 use Rattle.starts.specs.Starts.{firstAbove}
 use Rattle.starts.proofs.First.{none-keeps}
-use Rattle.loadings.specs.Loads.{Loading, loaded, turned-down, ifRoom, Loadable}
+use Rattle.loadings.specs.Loads.{Loading, loaded, turned-down, ifRoom}
 use Rattle.loadings.specs.Refits.{onAbove, refitTo, refitOn, stepOn, refitUpTo}
-use Rattle.loadings.proofs.Runs.{refit-run, one-move}
+use Rattle.loadings.proofs.Runs.{one-move}
 
 -- runs that agree from every starting table within the limits lead to the same outcome
 same-refit : (T : Tones) (start : List ℕ) (room : ℕ) {a b : Ran} → (KeepsLimits T start → a ≡ b) → refitTo T start a room ≡ refitTo T start b room
@@ -32,10 +32,11 @@ same-refit T start room {a} {b} same =
     by-length true f = f refl
     by-length false f = refl
 
-pub whole-refit : {count : ℕ} {A : Arrays} {T : Tones} → Loadable count A T → (budget : ℕ) (start : List ℕ) (room : ℕ)
+pub whole-refit : (T : Tones) → Rising T → sumOfLimits T ≤ mostBitsOfAll → (budget : ℕ) → KeepsBudget T budget (noBits T) → (start : List ℕ) (room : ℕ)
     → refitUpTo mostBitsOfAll T budget start room ≡ refitOn T budget start room
 unfolding refitUpTo refitOn
-whole-refit {T = T} L budget start room = same-refit T start room (λ w. refit-run L budget w)
+whole-refit T rises high budget fits start room =
+    same-refit T start room (λ w. refit-enough T rises budget fits w mostBitsOfAll high)
 
 pub single-step : (T : Tones) (budget : ℕ) (start : List ℕ) (room : ℕ) → refitUpTo 1 T budget start room ≡ stepOn T budget start room
 unfolding refitUpTo stepOn

@@ -1,4 +1,11 @@
--- Laws of silence maps: bits, tests below a number, and maps that join. Assumes nothing.
+-- Laws of silence maps:
+--   joined-bit, joined-lt                                   the bits of a map that joins two, and its range
+--   some-false, some-true, none-some                        whether some number below another passes a test
+--   count-le, counted-le, count-same, count-past, count-more   how many do
+--   beyond-clear, beyond-zero, clear-beyond, beyond-shift   maps that name no tone from N on
+--   joined-silences                                         maps of one word join
+--   ones-count, silenced-in, count-word                     the ones of each map are the tones that the maps silence
+-- Assumes nothing.
 use mathlib.Core.Bool.{Bool, true, false, not, _&&_, _||_, true≢false, or-false, and-true, and-false}
 use mathlib.Core.Logic.{⊎-elim}
 use mathlib.Core.List.{List}

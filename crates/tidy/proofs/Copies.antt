@@ -22,8 +22,8 @@ use Rattle.command.specs.Places.{toneAt, entryAt}
 use Rattle.command.proofs.Walk.{number-one}
 use Rattle.sheet.specs.Index.{ToneStands, Indexes}
 use Rattle.sheet.proofs.Sound.{Bytes, Sound}
-use Rattle.tidyform.specs.Tidy.{written, numbersOf, entryBytes, toneBytes, mapBytes}
-use Rattle.tidyform.proofs.Parts.{tone-row, no-word}
+use Rattle.tidyform.specs.Tidy.{entryBytes, toneBytes, mapBytes}
+use Rattle.tidyform.proofs.Parts.{row-is-tone, no-word}
 use Rattle.tidy.specs.Copies.{part, toneCopy, copies}
 
 -- ---- parts of a sheet
@@ -82,7 +82,7 @@ module _ (s : List ℕ) (b : Bytes s) where
   tone-copy : (i at : ℕ) → ToneStands s i at → entryBytes i (described (toneAt s at)) ≡ part s at 15
   tone-copy i at h =
       rw (
-        tone-row (isSingle (toneAt s at .kind)),
+        row-is-tone (isSingle (toneAt s at .kind)),
         code-kind (getD s at 0) (h .code) _,
         carried-kind (eqb (getD s at 0) 5) _,
         sym (h .tone),

@@ -1,3 +1,4 @@
 pub mod Copies
 pub mod Writes
 pub mod Index
+pub mod Outcomes

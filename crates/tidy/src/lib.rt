@@ -3,7 +3,7 @@ mod writer;
 
 ghost use mathlib.Core.List.{List};
 ghost use mathlib.Core.Path.{_≡_};
-ghost use Prim.Native.Nat.{ℕ, _≤_};
+ghost use Prim.Native.Nat.{ℕ, _*_, _≤_};
 ghost use lib.ListN.{length};
 ghost use Rattle.sizes.specs.Sizes.{mostTones, mostWords};
 ghost use Rattle.lists.specs.Lent.{before, after};
@@ -19,7 +19,7 @@ use sizes::WORDS;
 // How many bytes the described tones take, in any sheet.
 fn tones_bytes(size: u16, places: &[u16; TONES]) -> usize
     requires { ⌜ size ≤ mostTones ⌝ }
-    ensures { λ r. ⌜ ((s : List ℕ) → r ≡ length (copies size s (before places))) × (r ≤ 3840) ⌝ }
+    ensures { λ r. ⌜ ((s : List ℕ) → r ≡ length (copies size s (before places))) × (r ≤ 15 * mostTones) ⌝ }
 {
     let mut bytes: usize = 0;
     let mut i: u16 = 0;
@@ -34,7 +34,7 @@ fn tones_bytes(size: u16, places: &[u16; TONES]) -> usize
 
 // How many bytes the silence maps take.
 fn words_bytes(maps: &[u32; WORDS]) -> usize
-    ensures { λ r. ⌜ (r ≡ length (mapBytes mostWords (before maps))) × (r ≤ 48) ⌝ }
+    ensures { λ r. ⌜ (r ≡ length (mapBytes mostWords (before maps))) × (r ≤ 6 * mostWords) ⌝ }
 {
     let mut bytes: usize = 0;
     let mut word: usize = 0;

@@ -24,7 +24,7 @@ use Rattle.command.specs.Codes.{toneRow}
 use Rattle.command.specs.Places.{toneAt}
 use Rattle.command.specs.Format.{today}
 use Rattle.tidyform.specs.Tidy.{numbersOf, entryBytes}
-use Rattle.tidyform.proofs.Parts.{tone-row, length-described}
+use Rattle.tidyform.proofs.Parts.{row-is-tone, length-described}
 use Rattle.tidyform.proofs.Written.{byte-stands, number-stands, stands-after, stands-length, after, Good, nothing, value}
 
 -- Operands in range.
@@ -52,7 +52,7 @@ pub good-tone : {seen : Seen} (i : ℕ) (t : Tone) → i < 256 → i < seen .hea
 good-tone i t f a b I =
     let x : Numbers = carried t in
     let most : ℕ = mostCap (isSingle (t .kind)) in
-    rw (tone-row (isSingle (t .kind)))
+    rw (row-is-tone (isSingle (t .kind)))
     (newTone i f a b
     (ranged 2 1 65535 (x .noise) (omega arith) (I .noise-low) (I .noise-high)
     (ranged 2 1 65535 (x .gain) (omega arith) (I .gain-low) (I .gain-high)
@@ -76,7 +76,7 @@ tone-found false = refl
 tone-found true = refl
 
 pub tone-does : (single : Bool) → toneRow single .does ≡ tone (toneRow single .code) single .does
-tone-does single = ap (λ r. r .does) (tone-row single)
+tone-does single = ap (λ r. r .does) (row-is-tone single)
 
 -- where it stands in a sheet, the sheet has the tone
 pub tone-stands : (s q : List ℕ) (at i : ℕ) (t : Tone) → InRange t → at ≤ length s → drop at s ≡ entryBytes i (described t) ++ q → toneAt s at ≡ t
@@ -112,4 +112,4 @@ tone-stands s q at i t I h e =
         rw z (stands-after s (bytes w v) r (at + k) w (length-bytes w v) d)
 
     numbers : drop (at + 1) s ≡ bytes 1 i ++ (bytes 2 (x .noise) ++ (bytes 2 (x .gain) ++ (bytes 1 (x .cap) ++ (bytes 8 (x .mask) ++ q))))
-    numbers = stands-after s (toneRow single .code ∷ []) _ at 1 refl e ∙ rw (tone-row single) (simp append-assoc)
+    numbers = stands-after s (toneRow single .code ∷ []) _ at 1 refl e ∙ rw (row-is-tone single) (simp append-assoc)

@@ -19,13 +19,13 @@ use Rattle.tidyform.specs.Tidy.{written, numbersOf, entryBytes, toneByte
 -- A command.
 
 -- the tone commands differ in their byte and in their cap's range
-pub tone-row : (single : Bool) → toneRow single ≡ tone (toneRow single .code) single
-tone-row false = refl
-tone-row true = refl
+pub row-is-tone : (single : Bool) → toneRow single ≡ tone (toneRow single .code) single
+row-is-tone false = refl
+row-is-tone true = refl
 
 pub length-described : (i : ℕ) (t : Tone) → length (entryBytes i (described t)) ≡ 15
 length-described i t =
-    ap (λ (r : Row). length (written r (numbersOf i (carried t)))) (tone-row (isSingle (t .kind))) ∙ simp (length-append, length-bytes)
+    ap (λ (r : Row). length (written r (numbersOf i (carried t)))) (row-is-tone (isSingle (t .kind))) ∙ simp (length-append, length-bytes)
 
 pub length-entry-le : (i : ℕ) (e : Entry) → length (entryBytes i e) ≤ 15
 length-entry-le i undescribed = omega arith

@@ -27,7 +27,7 @@ use Rattle.command.specs.Codes.{sizeRow, toneRow, silenceRow}
 use Rattle.sheet.specs.Reading.{accepted, readingIn, reading, emptyLine, afterCommand, go}
 use Rattle.sheet.proofs.Sound.{Sound}
 use Rattle.tidyform.specs.Tidy.{written, numbersOf, entryBytes, wordBytes, toneBytes, mapBytes, tidy}
-use Rattle.tidyform.proofs.Parts.{tone-row}
+use Rattle.tidyform.proofs.Parts.{row-is-tone}
 use Rattle.tidyform.proofs.Length.{tidy-short}
 use Rattle.tidyform.proofs.Written.{seenIn, Good, nothing, Reads, reads-written, reads-end}
 use Rattle.tidyform.proofs.Operands.{ranged, newMap, good-tone, tone-found, tone-does, tone-stands}
@@ -99,7 +99,7 @@ module _ (l : Line) (S : Sound l) where
   tone-good n t q h I =
       let new = absent-from undescribed (l .size) (l .entries) n n (omega arith) in
       let here = bytes-one n (omega (arith, S .in-range .size-high)) in
-      good-tone n t (omega (arith, S .in-range .size-high)) h (rw (tone-row (isSingle (t .kind)), here, new)) I
+      good-tone n t (omega (arith, S .in-range .size-high)) h (rw (row-is-tone (isSingle (t .kind)), here, new)) I
 
   entry-ends : (n : ℕ) (e : Entry) (q : List ℕ) → n < l .size → getD (l .entries) n undescribed ≡ e → EntryInRange e
       → Ends l q (suc n) 0 → Ends l (entryBytes n e ++ q) n 0

@@ -35,8 +35,9 @@ mask-read c = c .number-at3 .ensures .0 ∙ number-there _ _ 8 (omega arith) (om
 -- each operand that passes leaves it to those after it
 to-noise : (c : tie.Else2) → Leaves fromNoise (c .before .before .before .before .before)
 to-noise c =
-    tone-operands _ _ _ _ (c .before .before .before .before .before .args .is-single)
-    ∙ simp (lt-leb _ _ (c .before .if1 .left), described-at (c .before .before .before .before .before .args .s .now) (c .before .before .before .before .before .args .place), le-ltb 0 _ (c .if2 .left))
+    let a = c .before .before .before .before .before .args in
+    tone-operands _ _ _ _ (a .is-single)
+    ∙ simp (lt-leb _ _ (c .before .if1 .left), described-at (a .s .now) (a .place), le-ltb 0 (a .place) (omega arith))
 
 to-gain : (c : tie.Else3) → Leaves fromGain (c .before .before .before .before .before .before .before)
 to-gain c =
@@ -77,9 +78,10 @@ cast-t16 c = search needs
 
 returns-2 : tie.Need-returns-2
 returns-2 c =
+    let a = c .before .before .before .before .before .args in
     sym
-    (tone-operands _ _ _ _ (c .before .before .before .before .before .args .is-single)
-    ∙ rw (lt-leb _ _ (c .before .if1 .left), described-at (c .before .before .before .before .before .args .s .now) (c .before .before .before .before .before .args .place), lt-ltb 0 _ (c .if2 .taken)))
+    (tone-operands _ _ _ _ (a .is-single)
+    ∙ rw (lt-leb _ _ (c .before .if1 .left), described-at (a .s .now) (a .place), lt-ltb 0 (a .place) (omega arith)))
 
 add-number-at : tie.Need-add-number-at
 add-number-at c = search needs

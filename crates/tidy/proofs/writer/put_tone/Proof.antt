@@ -16,7 +16,7 @@ copy-requires : tie.Need-copy-requires
 copy-requires c κs =
     let k = c .before .before .before .before in
     let there = c .before .if1 .left in
-    (k .pre .0 .whole there, omega (arith, length-copy (k .args .s .now) (k .args .place) there))
+    (omega (arith, k .pre .0 .whole there), omega (arith, length-copy (k .args .s .now) (k .args .place) there))
 
 add-result : tie.Need-add-result
 add-result c = search needs

@@ -1,0 +1,90 @@
+-- `tidy::tidy` meets its contract. Assumes nothing.
+use mathlib.Core.Path.{_≡_, _∙_}
+use Prim.Native.Nat.{_+_}
+use native.Mathlib.Omega.{arith}
+use lib.ListN.{length}
+use Rattle.line.specs.Line.{Line}
+use Rattle.sheet.specs.Reading.{accepted, reading}
+use Rattle.sheet.specs.Index.{Indexed}
+use Rattle.sheet.proofs.Uses.{indexed, refused-is, size-high}
+use Rattle.tidyform.specs.Tidy.{tidy}
+use Rattle.tidy.proofs.Index.{tidy-bytes}
+use Rattle.tidy.proofs.Outcomes.{turned-down, too-small, written}
+use borrow.Author.Needs.{needs}
+use Rattle.tidy.proofs.tidy.Statement.{statement}
+use Rattle.tidy.proofs.tidy.Tie as tie
+
+-- the arrays index the line that the sheet means
+index : (c : tie.After-read2) → (let r = c .before .before .read-sheet in Indexed (c .before .before .before .before .before .before .before .args .s .now) (c .read2 .given .0 .0) (r .last .1 .0) (r .last .1 .1 .0))
+index c = indexed (c .before .before .read-sheet .ensures) (c .read2 .given .1)
+
+-- what is counted is the length of its tidy form
+counted : (c : tie.After-words-bytes) (l : Line) → reading (c .before .before .before .before .before .before .before .before .before .before .before .before .args .s .now) ≡ accepted l
+    → 16 + c .before .before .tones-bytes .result + c .words-bytes .result ≡ length (tidy l)
+counted c l e =
+    let k = c .before .before .before .before .before .before .before .before .before .before .before in
+    let bytes = tidy-bytes (index (c .before .before .before .before .before)) (λ i. k .shared-slice-known .given i .fits) l e in
+    omega (arith, bytes, c .before .before .tones-bytes .ensures .0 (k .before .args .s .now), c .words-bytes .ensures .0)
+
+read-sheet-requires : tie.Need-read-sheet-requires
+read-sheet-requires c κs = search needs
+
+enum-known-read : tie.Need-enum-known-read
+enum-known-read c = search needs
+
+enum-known-read-2 : tie.Need-enum-known-read-2
+enum-known-read-2 c = search needs
+
+tones-bytes-requires : tie.Need-tones-bytes-requires
+tones-bytes-requires c κs = size-high (index (c .before .before)) (λ i. c .before .before .before .before .before .before .before .before .shared-slice-known .given i .fits)
+
+add-bytes : tie.Need-add-bytes
+add-bytes c = search needs
+
+words-bytes-requires : tie.Need-words-bytes-requires
+words-bytes-requires c κs = search needs
+
+add-bytes-2 : tie.Need-add-bytes-2
+add-bytes-2 c = search needs
+
+returns : tie.Need-returns
+returns c =
+    let n = c .before in
+    let x = index (n .before .before .before .before .before) in
+    too-small (x .means) (n .before .before .before .before .before .before .before .before .before .before .before .before .args .out .now) (counted n (x .line) (x .means)) (c .if1 .taken)
+
+put-line-requires : tie.Need-put-line-requires
+put-line-requires c κs =
+    let i = c .before .before .before in
+    (index (i .before .before .before .before .before .before), λ l e. omega (arith, counted (i .before) l e, i .if1 .left))
+
+returns-2 : tie.Need-returns-2
+returns-2 c = turned-down _ (c .before .before .before .before .before .before .before .before .args .out .now) (refused-is (c .before .before .before .read-sheet .ensures) (c .before .read .given .1))
+
+same-length : tie.Need-same-length
+same-length c = search needs
+
+returns-3 : tie.Need-returns-3
+returns-3 c =
+    let i = c .before .before .before .before .before .before in
+    let n = i .before in
+    let x = index (n .before .before .before .before .before) in
+    let w = written (x .means) (n .before .before .before .before .before .before .before .before .before .before .before .before .args .out .now) (counted n (x .line) (x .means)) (i .if1 .left) in
+    (w .0, (w .1 .0, c .before .before .put-line .ensures (x .line) (x .means) ∙ w .1 .1))
+
+pub tidy-spec : {M : Type 1} → statement M
+tidy-spec =
+    tie.close
+    (tie.spec
+    read-sheet-requires
+    enum-known-read
+    enum-known-read-2
+    tones-bytes-requires
+    add-bytes
+    words-bytes-requires
+    add-bytes-2
+    returns
+    put-line-requires
+    returns-2
+    same-length
+    returns-3)
