@@ -4,7 +4,7 @@ ghost use mathlib.Core.Path.{_≡_};
 ghost use Rattle.lists.specs.Lent.{before};
 ghost use Rattle.line.specs.Tone.{Gap};
 ghost use Rattle.line.specs.Line.{EntryInRange, entrySteps};
-ghost use Rattle.line.specs.Arrays.{arraysAfter};
+ghost use Rattle.line.specs.Arrays.{arraysBefore, arraysAfter};
 ghost use Rattle.command.specs.Places.{entryAt};
 ghost use Rattle.sheet.specs.Reading.{reading};
 ghost use Rattle.sheet.specs.Index.{Indexed};
@@ -72,8 +72,7 @@ pub fn read_tones(
     costs: &mut [u32; TONES],
     doublings: &mut [u8; TONES],
 ) -> Read
-    ensures { λ r. ⌜ TonesOf r (arrays (before limits) (before costs) (before doublings))
-        (arrays (after limits) (after costs) (after doublings)) (reading (before s)) ⌝ }
+    ensures { λ r. ⌜ TonesOf r (arraysBefore limits costs doublings) (arraysAfter limits costs doublings) (reading (before s)) ⌝ }
 {
     let mut places: [u16; TONES] = [0; TONES];
     let mut maps: [u32; WORDS] = [0; WORDS];

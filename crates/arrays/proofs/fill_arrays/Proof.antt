@@ -15,14 +15,8 @@ abbrev μ-loop : tie.MeasureT-loop
 loop-holds : tie.Need-loop-holds Inv-loop μ-loop
 loop-holds c = filling-starts (λ i. c .before .before .before .shared-slice-known .given i .fits) (c .before .before .before .before .pre)
 
-cast-if1 : tie.Need-cast-if1 Inv-loop μ-loop
-cast-if1 c = search needs
-
 cast-tone : tie.Need-cast-tone Inv-loop μ-loop
 cast-tone c = omega (arith, size-high (c .before .before .loop .inv))
-
-is-silenced-requires : tie.Need-is-silenced-requires Inv-loop μ-loop
-is-silenced-requires c κs = search needs
 
 mul-steps-at : tie.Need-mul-steps-at Inv-loop μ-loop
 mul-steps-at c = record { fits = omega (arith, size-high (c .before .before .before .loop .inv)) }
@@ -66,9 +60,9 @@ fill-arrays-spec =
     Inv-loop
     μ-loop
     loop-holds
-    cast-if1
+    (λ c. search needs)
     cast-tone
-    is-silenced-requires
+    (λ c κs. search needs)
     mul-steps-at
     element-copy-out-steps-at
     steps-at-requires

@@ -6,15 +6,6 @@ use borrow.Author.Needs.{needs}
 use Rattle.arrays.proofs.read_tones.Statement.{statement}
 use Rattle.arrays.proofs.read_tones.Tie as tie
 
-read-sheet-requires : tie.Need-read-sheet-requires
-read-sheet-requires c κs = search needs
-
-enum-known-read : tie.Need-enum-known-read
-enum-known-read c = search needs
-
-enum-known-read-2 : tie.Need-enum-known-read-2
-enum-known-read-2 c = search needs
-
 fill-arrays-requires : tie.Need-fill-arrays-requires
 fill-arrays-requires c κs =
     let k = c .before .before .before .before .before .before in
@@ -34,9 +25,9 @@ pub read-tones-spec : {M : Type 1} → statement M
 read-tones-spec =
     tie.close
     (tie.spec
-    read-sheet-requires
-    enum-known-read
-    enum-known-read-2
+    (λ c κs. search needs)
+    (λ c. search needs)
+    (λ c. search needs)
     fill-arrays-requires
     returns
     returns-2)

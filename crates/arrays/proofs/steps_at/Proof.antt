@@ -12,9 +12,6 @@ returns-2 c =
     let a = c .before .before .before .args in
     simp (c .before .if1 .left, entry-none (a .s .now) (a .place) (c .if2 .taken))
 
-tone-at-requires : tie.Need-tone-at-requires
-tone-at-requires c κs = search needs
-
 steps-of-requires : tie.Need-steps-of-requires
 steps-of-requires c κs =
     let a = c .before .before .before .before in
@@ -27,4 +24,4 @@ returns-3 c =
     simp (e .before .if1 .left, entry-there (a .s .now) (a .place) (e .if2 .left), c .steps-of .ensures, c .before .tone-at .ensures)
 
 pub steps-at-spec : {M : Type 1} → statement M
-steps-at-spec = tie.close (tie.spec returns returns-2 tone-at-requires steps-of-requires returns-3)
+steps-at-spec = tie.close (tie.spec returns returns-2 (λ c κs. search needs) steps-of-requires returns-3)

@@ -8,9 +8,6 @@ use Rattle.command.proofs.Rows.{tone-row, tone-width, end-row}
 use Rattle.command.proofs.operands.Statement.{statement}
 use Rattle.command.proofs.operands.Tie as tie
 
-header-command-requires : tie.Need-header-command-requires
-header-command-requires c κs = search needs
-
 returns : tie.Need-returns
 returns c = c .header-command .ensures _
 
@@ -40,7 +37,7 @@ pub operands-spec : {M : Type 1} → statement M
 operands-spec =
     tie.close
     (tie.spec
-    header-command-requires
+    (λ c κs. search needs)
     returns
     tone-command-requires
     returns-2

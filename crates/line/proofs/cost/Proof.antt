@@ -7,20 +7,8 @@ use borrow.Author.Needs.{needs}
 use Rattle.line.proofs.cost.Statement.{statement}
 use Rattle.line.proofs.cost.Tie as tie
 
-carried-requires : tie.Need-carried-requires
-carried-requires c κs = search needs
-
-cast-top : tie.Need-cast-top
-cast-top c = search needs
-
 mul-top : tie.Need-mul-top
 mul-top c = let a = c .before .before in rw (c .before .carried .ensures) (record { fits = omega (arith, product-high (a .args .gap) (a .args .tone) (a .pre .0) (a .pre .1)) })
-
-cast-bottom : tie.Need-cast-bottom
-cast-bottom c = search needs
-
-mul-bottom : tie.Need-mul-bottom
-mul-bottom c = search needs
 
 sub-result : tie.Need-sub-result
 sub-result c = rw (c .before .before .carried .ensures) (omega (arith, c .before .before .before .pre .1 .gain-low))
@@ -48,11 +36,11 @@ pub cost-spec : {M : Type 1} → statement M
 cost-spec =
     tie.close
     (tie.spec
-    carried-requires
-    cast-top
+    (λ c κs. search needs)
+    (λ c. search needs)
     mul-top
-    cast-bottom
-    mul-bottom
+    (λ c. search needs)
+    (λ c. search needs)
     sub-result
     add-result
     div-result

@@ -21,9 +21,6 @@ abbrev μ-loop : tie.MeasureT-loop
 below : (c : tie.In-loop Inv-loop μ-loop) → c .before .loop .bits + 1 ≤ carried (c .before .before .before .args .tone) .cap
 below c = omega (arith, c .loop-test .taken, ap (λ (n : Numbers). n .cap) (c .before .before .carried .ensures))
 
-carried-requires : tie.Need-carried-requires Inv-loop μ-loop
-carried-requires c κs = search needs
-
 loop-holds : tie.Need-loop-holds Inv-loop μ-loop
 loop-holds c = record { at-most = omega arith; under = omega (arith, power-zero (c .before .args .tone) (c .before .args .cost)) }
 
@@ -62,7 +59,7 @@ limit-spec =
     (tie.spec
     Inv-loop
     μ-loop
-    carried-requires
+    (λ c κs. search needs)
     loop-holds
     add-power
     power-requires

@@ -8,15 +8,6 @@ use borrow.Author.Needs.{needs}
 use Rattle.loader.proofs.load_most.Statement.{statement}
 use Rattle.loader.proofs.load_most.Tie as tie
 
-read-tones-requires : tie.Need-read-tones-requires
-read-tones-requires c κs = search needs
-
-enum-known-read : tie.Need-enum-known-read
-enum-known-read c = search needs
-
-enum-known-read-2 : tie.Need-enum-known-read-2
-enum-known-read-2 c = search needs
-
 most-requires : tie.Need-most-requires
 most-requires c κs =
     let k = c .before .before .before .before .before in
@@ -29,9 +20,6 @@ returns c =
     let k = t .before .before .before .before .before in
     let a = k .before .args in
     most-call (a .s .now) (λ i. k .shared-slice-known .given i .fits) (a .table .now) _ (load-refused (loadMost (a .s .now)) _ (not-loaded (refusal-is (t .read-tones .ensures) (c .before .read .given .1)) _))
-
-same-length : tie.Need-same-length
-same-length c = search needs
 
 returns-2 : tie.Need-returns-2
 unfolding loadMost
@@ -46,10 +34,10 @@ pub load-most-spec : {M : Type 1} → statement M
 load-most-spec =
     tie.close
     (tie.spec
-    read-tones-requires
-    enum-known-read
-    enum-known-read-2
+    (λ c κs. search needs)
+    (λ c. search needs)
+    (λ c. search needs)
     most-requires
     returns
-    same-length
+    (λ c. search needs)
     returns-2)

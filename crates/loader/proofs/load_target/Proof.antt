@@ -8,15 +8,6 @@ use borrow.Author.Needs.{needs}
 use Rattle.loader.proofs.load_target.Statement.{statement}
 use Rattle.loader.proofs.load_target.Tie as tie
 
-read-tones-requires : tie.Need-read-tones-requires
-read-tones-requires c κs = search needs
-
-enum-known-read : tie.Need-enum-known-read
-enum-known-read c = search needs
-
-enum-known-read-2 : tie.Need-enum-known-read-2
-enum-known-read-2 c = search needs
-
 target-requires : tie.Need-target-requires
 target-requires c κs =
     let k = c .before .before .before .before .before in
@@ -29,9 +20,6 @@ returns c =
     let k = t .before .before .before .before .before in
     let a = k .before .args in
     target-call (a .s .now) (λ i. k .shared-slice-known .given i .fits) (a .table .now) _ (a .target) (load-refused (loadTarget (a .s .now) (a .target)) _ (not-loaded (refusal-is (t .read-tones .ensures) (c .before .read .given .1)) _))
-
-same-length : tie.Need-same-length
-same-length c = search needs
 
 returns-2 : tie.Need-returns-2
 unfolding loadTarget
@@ -46,10 +34,10 @@ pub load-target-spec : {M : Type 1} → statement M
 load-target-spec =
     tie.close
     (tie.spec
-    read-tones-requires
-    enum-known-read
-    enum-known-read-2
+    (λ c κs. search needs)
+    (λ c. search needs)
+    (λ c. search needs)
     target-requires
     returns
-    same-length
+    (λ c. search needs)
     returns-2)

@@ -7,15 +7,6 @@ use borrow.Author.Needs.{needs}
 use Rattle.loader.proofs.refit_up_to.Statement.{statement}
 use Rattle.loader.proofs.refit_up_to.Tie as tie
 
-read-tones-requires : tie.Need-read-tones-requires
-read-tones-requires c κs = search needs
-
-enum-known-read : tie.Need-enum-known-read
-enum-known-read c = search needs
-
-enum-known-read-2 : tie.Need-enum-known-read-2
-enum-known-read-2 c = search needs
-
 refit-requires : tie.Need-refit-requires
 refit-requires c κs =
     let k = c .before .before .before .before .before in
@@ -28,9 +19,6 @@ returns c =
     let a = t .before .before .before .before .before .before .before .args in
     refit-refused (refitBy (a .most) (a .s .now) (a .start .now)) _ (not-loaded (refusal-is (t .read-tones .ensures) (c .before .read .given .1)) _)
 
-same-length : tie.Need-same-length
-same-length c = search needs
-
 returns-2 : tie.Need-returns-2
 unfolding refitBy
 returns-2 c =
@@ -41,10 +29,10 @@ pub refit-up-to-spec : {M : Type 1} → statement M
 refit-up-to-spec =
     tie.close
     (tie.spec
-    read-tones-requires
-    enum-known-read
-    enum-known-read-2
+    (λ c κs. search needs)
+    (λ c. search needs)
+    (λ c. search needs)
     refit-requires
     returns
-    same-length
+    (λ c. search needs)
     returns-2)

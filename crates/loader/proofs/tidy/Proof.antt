@@ -4,12 +4,6 @@ use borrow.Author.Needs.{needs}
 use Rattle.loader.proofs.tidy.Statement.{statement}
 use Rattle.loader.proofs.tidy.Tie as tie
 
-tidy-requires : tie.Need-tidy-requires
-tidy-requires c κs = search needs
-
-same-length : tie.Need-same-length
-same-length c = search needs
-
 returns : tie.Need-returns
 returns c =
     let k = c .before .before .before .before .before in
@@ -17,4 +11,4 @@ returns c =
     (e .0, (e .1 .0, (e .1 .1, tidy-call (k .before .args .s .now) (λ i. k .shared-slice-known .given i .fits) (k .before .args .out .now) (e .1 .1))))
 
 pub tidy-spec : {M : Type 1} → statement M
-tidy-spec = tie.close (tie.spec tidy-requires same-length returns)
+tidy-spec = tie.close (tie.spec (λ c κs. search needs) (λ c. search needs) returns)

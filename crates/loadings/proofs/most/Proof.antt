@@ -9,14 +9,8 @@ use borrow.Author.Needs.{needs}
 use Rattle.loadings.proofs.most.Statement.{statement}
 use Rattle.loadings.proofs.most.Tie as tie
 
-mul-if1 : tie.Need-mul-if1
-mul-if1 c = search needs
-
 returns : tie.Need-returns
 returns c = λ T L. load-refused (mostOn T _) _ (most-short L _ (c .if1 .taken))
-
-no-bits-requires : tie.Need-no-bits-requires
-no-bits-requires c κs = search needs
 
 run-requires : tie.Need-run-requires
 run-requires c κs =
@@ -28,12 +22,6 @@ put-table-requires c κs =
     let e = c .before .before .before .before in
     let L = e .before .before .before .before .pre .loadable in
     (L .in-range .count-high, (writable L (e .run .ensures _ _ (none-stands L (e .before .no-bits .ensures)) .stands), e .before .before .if1 .left))
-
-total-bits-requires : tie.Need-total-bits-requires
-total-bits-requires c κs = search needs
-
-same-length : tie.Need-same-length
-same-length c = search needs
 
 returns-2 : tie.Need-returns-2
 returns-2 c = λ T L.
@@ -54,11 +42,11 @@ pub most-spec : {M : Type 1} → statement M
 most-spec =
     tie.close
     (tie.spec
-    mul-if1
+    (λ c. search needs)
     returns
-    no-bits-requires
+    (λ c κs. search needs)
     run-requires
     put-table-requires
-    total-bits-requires
-    same-length
+    (λ c κs. search needs)
+    (λ c. search needs)
     returns-2)

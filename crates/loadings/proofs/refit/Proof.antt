@@ -9,29 +9,17 @@ use borrow.Author.Needs.{needs}
 use Rattle.loadings.proofs.refit.Statement.{statement}
 use Rattle.loadings.proofs.refit.Tie as tie
 
-mul-if1 : tie.Need-mul-if1
-mul-if1 c = search needs
-
 returns : tie.Need-returns
 returns c = λ T L. refit-refused (refitUpTo _ T _ _) _ (refit-short L _ _ _ (c .if1 .taken))
 
 returns-2 : tie.Need-returns-2
 returns-2 c = λ T L. refit-refused (refitUpTo _ T _ _) _ (refit-length L _ _ _ (c .before .if1 .left) (c .if2 .taken))
 
-first-above-requires : tie.Need-first-above-requires
-first-above-requires c κs = search needs
-
-enum-known-above : tie.Need-enum-known-above
-enum-known-above c = search needs
-
 cast-t22 : tie.Need-cast-t22
 cast-t22 c =
     let f = c .before .before .before in
     let L = f .before .before .before .before .before .pre .loadable in
     record { fits = omega (arith, first-tone L _ (f .before .if2 .left) _ (f .first-above .ensures) (c .before .above .given .1), L .in-range .count-high) }
-
-enum-told : tie.Need-enum-told
-enum-told c = search needs
 
 from-start-requires : tie.Need-from-start-requires
 from-start-requires c κs =
@@ -67,9 +55,6 @@ returns-3 c = λ T L.
     refit-refused (refitUpTo (k .args .most) T (k .args .budget) (k .args .start .now)) _
     (refit-above L _ _ _ (f .before .before .if1 .left) (f .before .if2 .left) (found-above L _ (f .before .if2 .left) _ (f .first-above .ensures) (c .before .above .given .1)))
 
-same-length : tie.Need-same-length
-same-length c = search needs
-
 returns-4 : tie.Need-returns-4
 returns-4 c = λ T L.
     let e = c .before .before .before .before .before .before .before .before .before in
@@ -95,17 +80,17 @@ pub refit-spec : {M : Type 1} → statement M
 refit-spec =
     tie.close
     (tie.spec
-    mul-if1
+    (λ c. search needs)
     returns
     returns-2
-    first-above-requires
-    enum-known-above
+    (λ c κs. search needs)
+    (λ c. search needs)
     cast-t22
-    enum-told
+    (λ c. search needs)
     from-start-requires
     run-requires
     put-table-requires
     total-bits-requires
     returns-3
-    same-length
+    (λ c. search needs)
     returns-4)

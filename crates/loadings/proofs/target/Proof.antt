@@ -10,25 +10,13 @@ use borrow.Author.Needs.{needs}
 use Rattle.loadings.proofs.target.Statement.{statement}
 use Rattle.loadings.proofs.target.Tie as tie
 
-mul-if1 : tie.Need-mul-if1
-mul-if1 c = search needs
-
 returns : tie.Need-returns
 returns c = λ T L. load-refused (targetOn T _ _) _ (target-short L _ _ (c .if1 .taken))
-
-no-bits-requires : tie.Need-no-bits-requires
-no-bits-requires c κs = search needs
 
 run-requires : tie.Need-run-requires
 run-requires c κs =
     let L = c .before .before .before .pre .loadable in
     runnable L (none-stands L (c .no-bits .ensures))
-
-enum-told : tie.Need-enum-told
-enum-told c = search needs
-
-enum-told-2 : tie.Need-enum-told-2
-enum-told-2 c = search needs
 
 put-table-requires : tie.Need-put-table-requires
 put-table-requires c κs =
@@ -43,9 +31,6 @@ returns-2 c = λ T L.
     let E = e .run .ensures T (noBits T) (none-stands L (e .before .no-bits .ensures)) in
     load-refused (targetOn T (k .args .budget) (k .args .target)) _
     (target-missed L _ _ (e .before .before .if1 .left) refl (missed-by L _ _ (E .progressed) (c .enum-told .given .1)))
-
-same-length : tie.Need-same-length
-same-length c = search needs
 
 returns-3 : tie.Need-returns-3
 returns-3 c = λ T L.
@@ -68,13 +53,13 @@ pub target-spec : {M : Type 1} → statement M
 target-spec =
     tie.close
     (tie.spec
-    mul-if1
+    (λ c. search needs)
     returns
-    no-bits-requires
+    (λ c κs. search needs)
     run-requires
-    enum-told
-    enum-told-2
+    (λ c. search needs)
+    (λ c. search needs)
     put-table-requires
     returns-2
-    same-length
+    (λ c. search needs)
     returns-3)

@@ -5,18 +5,6 @@ use Rattle.moves.proofs.Named.{adds}
 use Rattle.moves.proofs.next_move.Statement.{statement}
 use Rattle.moves.proofs.next_move.Tie as tie
 
-enum-told : tie.Need-enum-told
-enum-told c = search needs
-
-take-if-fits-requires : tie.Need-take-if-fits-requires
-take-if-fits-requires c κs = search needs
-
-enum-told-2 : tie.Need-enum-told-2
-enum-told-2 c = search needs
-
-refit-move-requires : tie.Need-refit-move-requires
-refit-move-requires c κs = search needs
-
 returns : tie.Need-returns
 unfolding addStep
 returns c = λ T t K. rw (c .before .enum-told .given .1) (c .take-if-fits .ensures T t (adds K))
@@ -27,4 +15,4 @@ returns-2 c = rw (c .before .enum-told2 .given .1) (c .refit-move .ensures)
 pub next-move-spec : {M : Type 1} → statement M
 next-move-spec =
     tie.close
-    (tie.spec enum-told take-if-fits-requires enum-told-2 refit-move-requires returns returns-2)
+    (tie.spec (λ c. search needs) (λ c κs. search needs) (λ c. search needs) (λ c κs. search needs) returns returns-2)

@@ -14,9 +14,6 @@ returns : tie.Need-returns
 unfolding takeIfFits noStep
 returns c = λ T t K. rw (no-free K (c .if1 .taken))
 
-step-at-requires : tie.Need-step-at-requires
-step-at-requires c κs = search needs
-
 add-if2 : tie.Need-add-if2
 add-if2 c =
     let z : c .before .step-at .result .size ≡ c .before .before .before .args .earliest / 256 = ap (λ (s : Step). s .size) (c .before .step-at .ensures) in
@@ -31,4 +28,4 @@ unfolding noStep
 returns-3 c = λ T t K. let F = free-at K (c .before .before .step-at .ensures) (c .before .before .before .if1 .left) in (fitting K F (c .if2 .left), F)
 
 pub take-if-fits-spec : {M : Type 1} → statement M
-take-if-fits-spec = tie.close (tie.spec returns step-at-requires add-if2 returns-2 returns-3)
+take-if-fits-spec = tie.close (tie.spec returns (λ c κs. search needs) add-if2 returns-2 returns-3)

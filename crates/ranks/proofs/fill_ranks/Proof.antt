@@ -22,18 +22,6 @@ loop-holds c = let p = c .pre .1 .1 in (omega arith, stored-none (p .0), stored-
 element-copy-out-put-ranks : tie.Need-element-copy-out-put-ranks Inv-loop μ-loop
 element-copy-out-put-ranks c = omega (arith, c .before .before .pre .0 .count-high)
 
-mul-put-ranks : tie.Need-mul-put-ranks Inv-loop μ-loop
-mul-put-ranks c = search needs
-
-element-copy-out-put-ranks-2 : tie.Need-element-copy-out-put-ranks-2 Inv-loop μ-loop
-element-copy-out-put-ranks-2 c = search needs
-
-element-copy-out-put-ranks-3 : tie.Need-element-copy-out-put-ranks-3 Inv-loop μ-loop
-element-copy-out-put-ranks-3 c = search needs
-
-element-copy-out-put-ranks-4 : tie.Need-element-copy-out-put-ranks-4 Inv-loop μ-loop
-element-copy-out-put-ranks-4 c = search needs
-
 put-ranks-requires : tie.Need-put-ranks-requires Inv-loop μ-loop
 put-ranks-requires c κs =
     let a = c .before .before .before .before .before .before .before in
@@ -41,12 +29,6 @@ put-ranks-requires c κs =
     let p = a .before .pre in
     let l : i < a .before .args .count = omega arith in
     (omega (arith, p .0 .count-high), (p .0 .cost-high i l, (p .0 .shift-high i l, p .1 .0 .under i l)))
-
-add-i : tie.Need-add-i Inv-loop μ-loop
-add-i c = search needs
-
-loop-less : tie.Need-loop-less Inv-loop μ-loop
-loop-less c = search needs
 
 loop-again : tie.Need-loop-again Inv-loop μ-loop
 loop-again c =
@@ -69,12 +51,12 @@ fill-ranks-spec =
     μ-loop
     loop-holds
     element-copy-out-put-ranks
-    mul-put-ranks
-    element-copy-out-put-ranks-2
-    element-copy-out-put-ranks-3
-    element-copy-out-put-ranks-4
+    (λ c. search needs)
+    (λ c. search needs)
+    (λ c. search needs)
+    (λ c. search needs)
     put-ranks-requires
-    add-i
-    loop-less
+    (λ c. search needs)
+    (λ c. search needs)
     loop-again
     returns)

@@ -10,9 +10,6 @@ use Rattle.ranks.proofs.Sizes.{size-high}
 use Rattle.ranks.proofs.held_rank.Statement.{statement}
 use Rattle.ranks.proofs.held_rank.Tie as tie
 
-sub-step-size : tie.Need-sub-step-size
-sub-step-size c = search needs
-
 step-size-requires : tie.Need-step-size-requires
 step-size-requires c κs = (c .before .pre .1 .0, (le-trans (mul-le-mul-left (c .before .args .doublings) (omega arith)) (c .before .pre .1 .1), omega arith))
 
@@ -42,4 +39,4 @@ returns-2 c = let a = c .before .args in rw (le-ltb 0 (a .bits) (omega arith)) r
 pub held-rank-spec : {M : Type 1} → statement M
 held-rank-spec =
     tie.close
-    (tie.spec sub-step-size step-size-requires mul-result add-result sub-result returns returns-2)
+    (tie.spec (λ c. search needs) step-size-requires mul-result add-result sub-result returns returns-2)

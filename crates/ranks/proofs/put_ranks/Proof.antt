@@ -4,25 +4,10 @@ use borrow.Author.Needs.{needs}
 use Rattle.ranks.proofs.put_ranks.Statement.{statement}
 use Rattle.ranks.proofs.put_ranks.Tie as tie
 
-free-rank-requires : tie.Need-free-rank-requires
-free-rank-requires c κs = search needs
-
-mul-frees : tie.Need-mul-frees
-mul-frees c = search needs
-
-slice-write-frees : tie.Need-slice-write-frees
-slice-write-frees c = search needs
-
 held-rank-requires : tie.Need-held-rank-requires
 held-rank-requires c κs =
     let a = c .before .before .before in
     (a .pre .0, (a .pre .1 .0, le-trans (mul-le-mul-left (a .args .doublings) (a .pre .1 .1 .1)) (a .pre .1 .1 .0)))
-
-mul-helds : tie.Need-mul-helds
-mul-helds c = search needs
-
-slice-write-helds : tie.Need-slice-write-helds
-slice-write-helds c = search needs
 
 returns : tie.Need-returns
 returns c = (rw (c .before .free-rank .ensures), (rw (c .held-rank .ensures), (c .before .before .before .frees .given .0 .1, c .before .before .helds .given .0 .1)))
@@ -31,10 +16,10 @@ pub put-ranks-spec : {M : Type 1} → statement M
 put-ranks-spec =
     tie.close
     (tie.spec
-    free-rank-requires
-    mul-frees
-    slice-write-frees
+    (λ c κs. search needs)
+    (λ c. search needs)
+    (λ c. search needs)
     held-rank-requires
-    mul-helds
-    slice-write-helds
+    (λ c. search needs)
+    (λ c. search needs)
     returns)

@@ -33,16 +33,10 @@ loop-holds c = along-starts (c .before .before .before .before .before .pre) (c 
 step-requires : tie.Need-step-requires Inv-loop μ-loop
 step-requires c κs = let G = c .before .before .before .loop .inv in (G .runnable, G .ranks)
 
-enum-told : tie.Need-enum-told Inv-loop μ-loop
-enum-told c = search needs
-
 add-moves : tie.Need-add-moves Inv-loop μ-loop
 add-moves c =
     let most = c .before .before .before .before .before .before .before .before .before .before .before .before .before .fits .most in
     record { fits = omega (arith, c .before .before .before .before .before .before .loop-test .taken, most) }
-
-loop-less : tie.Need-loop-less Inv-loop μ-loop
-loop-less c = search needs
 
 loop-again : tie.Need-loop-again Inv-loop μ-loop
 loop-again c =
@@ -51,9 +45,6 @@ loop-again c =
     let G = c .before .before .before .before .before .before .before .loop .inv in
     let test = c .before .before .before .before .before .before .loop-test .taken in
     along-moved G (ran .ensures .0) test (c .enum-told .given .1) {newFree = last .0} {newHeld = last .1 .0} (ran .ensures .1)
-
-enum-told-2 : tie.Need-enum-told-2 Inv-loop μ-loop
-enum-told-2 c = search needs
 
 returns : tie.Need-returns Inv-loop μ-loop
 returns c =
@@ -73,10 +64,10 @@ run-spec =
     fill-ranks-requires
     loop-holds
     step-requires
-    enum-told
+    (λ c. search needs)
     add-moves
-    loop-less
+    (λ c. search needs)
     loop-again
-    enum-told-2
+    (λ c. search needs)
     returns
     returns-2)

@@ -8,20 +8,8 @@ use Rattle.sheet.proofs.Counts.{counts-are, check-numbers}
 use Rattle.sheet.proofs.check.Statement.{statement}
 use Rattle.sheet.proofs.check.Tie as tie
 
-read-sheet-requires : tie.Need-read-sheet-requires
-read-sheet-requires c κs = search needs
-
-enum-known-read : tie.Need-enum-known-read
-enum-known-read c = search needs
-
-enum-known-read-2 : tie.Need-enum-known-read-2
-enum-known-read-2 c = search needs
-
 placed-count-requires : tie.Need-placed-count-requires
 placed-count-requires c κs = size-high (indexed (c .before .before .before .before .read-sheet .ensures) (c .before .before .read2 .given .1)) (λ i. c .before .before .before .before .before .before .before .shared-slice-known .given i .fits)
-
-silenced-count-requires : tie.Need-silenced-count-requires
-silenced-count-requires c κs = search needs
 
 cast-t15 : tie.Need-cast-t15
 cast-t15 c = record { fits = omega (arith, counted-le _ _ (c .silenced-count .ensures)) }
@@ -38,11 +26,11 @@ pub check-spec : {M : Type 1} → statement M
 check-spec =
     tie.close
     (tie.spec
-    read-sheet-requires
-    enum-known-read
-    enum-known-read-2
+    (λ c κs. search needs)
+    (λ c. search needs)
+    (λ c. search needs)
     placed-count-requires
-    silenced-count-requires
+    (λ c κs. search needs)
     cast-t15
     returns
     returns-2)

@@ -38,20 +38,11 @@ known c = said (c .before .before .before .loop .inv) (met c)
 loop-holds : tie.Need-loop-holds Inv-loop μ-loop
 loop-holds c = rw (c .before .pre .0, c .before .pre .1) (starts _)
 
-addressed-requires : tie.Need-addressed-requires Inv-loop μ-loop
-addressed-requires c κs = search needs
-
 mul-decode : tie.Need-mul-decode Inv-loop μ-loop
 mul-decode c = record { fits = omega (arith, c .addressed .ensures .1) }
 
 element-copy-out-decode : tie.Need-element-copy-out-decode Inv-loop μ-loop
 element-copy-out-decode c = c .addressed .ensures .1
-
-decode-requires : tie.Need-decode-requires Inv-loop μ-loop
-decode-requires c κs = search needs
-
-enum-told : tie.Need-enum-told Inv-loop μ-loop
-enum-told c = search needs
 
 cast-t22 : tie.Need-cast-t22 Inv-loop μ-loop
 cast-t22 c = let k = known (c .before .before .before) _ (c .before .enum-told .given .1) in record { fits = omega arith }
@@ -62,38 +53,17 @@ returns c = on-more (c .before .before .before .before .before .before .loop .in
 returns-2 : tie.Need-returns-2 Inv-loop μ-loop
 returns-2 c = on-end (c .before .before .before .before .before .before .loop .inv) (met (c .before .before .before)) (c .before .enum-told .given .1) (c .if1 .left)
 
-enum-known-command : tie.Need-enum-known-command Inv-loop μ-loop
-enum-known-command c = search needs
-
 returns-3 : tie.Need-returns-3 Inv-loop μ-loop
 returns-3 c = on-refused (c .before .before .before .before .before .before .loop .inv) (met (c .before .before .before)) _ (c .before .command .given .1)
-
-enum-known-command-2 : tie.Need-enum-known-command-2 Inv-loop μ-loop
-enum-known-command-2 c = search needs
 
 add-stage : tie.Need-add-stage Inv-loop μ-loop
 add-stage c = let k = known (c .before .before .before) _ (c .before .command2 .given .1) in record { fits = omega arith }
 
-enum-known-command-3 : tie.Need-enum-known-command-3 Inv-loop μ-loop
-enum-known-command-3 c = search needs
-
 cast-places : tie.Need-cast-places Inv-loop μ-loop
 cast-places c = let k = known (c .before .before .before) _ (c .before .command3 .given .1) in record { fits = omega arith }
 
-cast-places-2 : tie.Need-cast-places-2 Inv-loop μ-loop
-cast-places-2 c = search needs
-
-mul-places : tie.Need-mul-places Inv-loop μ-loop
-mul-places c = search needs
-
 element-write-places : tie.Need-element-write-places Inv-loop μ-loop
 element-write-places c = let k = known (c .before .before .before) _ (c .before .command3 .given .1) in omega (arith, c .before .before .before .before .before .addressed .ensures .0, c .before .before .before .before .before .addressed .ensures .1)
-
-enum-known-command-4 : tie.Need-enum-known-command-4 Inv-loop μ-loop
-enum-known-command-4 c = search needs
-
-cast-maps : tie.Need-cast-maps Inv-loop μ-loop
-cast-maps c = search needs
 
 mul-maps : tie.Need-mul-maps Inv-loop μ-loop
 mul-maps c = let k = known (c .before .before .before) _ (c .before .command4 .given .1) in record { fits = omega arith }
@@ -129,25 +99,25 @@ read-commands-spec =
     Inv-loop
     μ-loop
     loop-holds
-    addressed-requires
+    (λ c κs. search needs)
     mul-decode
     element-copy-out-decode
-    decode-requires
-    enum-told
+    (λ c κs. search needs)
+    (λ c. search needs)
     cast-t22
     returns
     returns-2
-    enum-known-command
+    (λ c. search needs)
     returns-3
-    enum-known-command-2
+    (λ c. search needs)
     add-stage
-    enum-known-command-3
+    (λ c. search needs)
     cast-places
-    cast-places-2
-    mul-places
+    (λ c. search needs)
+    (λ c. search needs)
     element-write-places
-    enum-known-command-4
-    cast-maps
+    (λ c. search needs)
+    (λ c. search needs)
     mul-maps
     element-copy-out-maps
     element-write-maps

@@ -4,15 +4,6 @@ use Rattle.sheet.proofs.Uses.{leaves-accepted, leaves-refused}
 use Rattle.sheet.proofs.read_sheet.Statement.{statement}
 use Rattle.sheet.proofs.read_sheet.Tie as tie
 
-read-commands-requires : tie.Need-read-commands-requires
-read-commands-requires c κs = search needs
-
-enum-known-read : tie.Need-enum-known-read
-enum-known-read c = search needs
-
-enum-known-read-2 : tie.Need-enum-known-read-2
-enum-known-read-2 c = search needs
-
 returns : tie.Need-returns
 returns c = leaves-accepted (c .before .before .before .read-commands .ensures) (c .before .read .given .1)
 
@@ -21,4 +12,4 @@ returns-2 c = leaves-refused (c .before .before .before .before .before .read-co
 
 pub read-sheet-spec : {M : Type 1} → statement M
 read-sheet-spec =
-    tie.close (tie.spec read-commands-requires enum-known-read enum-known-read-2 returns returns-2)
+    tie.close (tie.spec (λ c κs. search needs) (λ c. search needs) (λ c. search needs) returns returns-2)

@@ -13,9 +13,6 @@ Inv-loop start costs doublings running₀ i₀ running i = Copied costs doubling
 abbrev μ-loop : tie.MeasureT-loop
 μ-loop start costs doublings running₀ i₀ running i = length start - i
 
-no-bits-requires : tie.Need-no-bits-requires Inv-loop μ-loop
-no-bits-requires c κs = search needs
-
 loop-holds : tie.Need-loop-holds Inv-loop μ-loop
 loop-holds c = rw (c .no-bits .ensures) none-copied
 
@@ -66,7 +63,7 @@ from-start-spec =
     (tie.spec
     Inv-loop
     μ-loop
-    no-bits-requires
+    (λ c κs. search needs)
     loop-holds
     shared-slice-read-running
     element-write-running

@@ -9,15 +9,6 @@ use borrow.Author.Needs.{needs}
 use Rattle.tables.proofs.put_tone.Statement.{statement}
 use Rattle.tables.proofs.put_tone.Tie as tie
 
-slice-write-out : tie.Need-slice-write-out
-slice-write-out c = search needs
-
-add-put-number : tie.Need-add-put-number
-add-put-number c = search needs
-
-put-number-requires : tie.Need-put-number-requires
-put-number-requires c κs = search needs
-
 same-length : tie.Need-same-length
 same-length c = c .before .before .put-number .kept .0 ∙ simp length-set
 
@@ -29,4 +20,4 @@ returns c =
 
 pub put-tone-spec : {M : Type 1} → statement M
 put-tone-spec =
-    tie.close (tie.spec slice-write-out add-put-number put-number-requires same-length returns)
+    tie.close (tie.spec (λ c. search needs) (λ c. search needs) (λ c κs. search needs) same-length returns)

@@ -26,26 +26,8 @@ counted c l e =
     let bytes = tidy-bytes (index (c .before .before .before .before .before)) (λ i. k .shared-slice-known .given i .fits) l e in
     omega (arith, bytes, c .before .before .tones-bytes .ensures .0 (k .before .args .s .now), c .words-bytes .ensures .0)
 
-read-sheet-requires : tie.Need-read-sheet-requires
-read-sheet-requires c κs = search needs
-
-enum-known-read : tie.Need-enum-known-read
-enum-known-read c = search needs
-
-enum-known-read-2 : tie.Need-enum-known-read-2
-enum-known-read-2 c = search needs
-
 tones-bytes-requires : tie.Need-tones-bytes-requires
 tones-bytes-requires c κs = size-high (index (c .before .before)) (λ i. c .before .before .before .before .before .before .before .before .shared-slice-known .given i .fits)
-
-add-bytes : tie.Need-add-bytes
-add-bytes c = search needs
-
-words-bytes-requires : tie.Need-words-bytes-requires
-words-bytes-requires c κs = search needs
-
-add-bytes-2 : tie.Need-add-bytes-2
-add-bytes-2 c = search needs
 
 returns : tie.Need-returns
 returns c =
@@ -61,9 +43,6 @@ put-line-requires c κs =
 returns-2 : tie.Need-returns-2
 returns-2 c = turned-down _ (c .before .before .before .before .before .before .before .before .args .out .now) (refused-is (c .before .before .before .read-sheet .ensures) (c .before .read .given .1))
 
-same-length : tie.Need-same-length
-same-length c = search needs
-
 returns-3 : tie.Need-returns-3
 returns-3 c =
     let i = c .before .before .before .before .before .before in
@@ -76,15 +55,15 @@ pub tidy-spec : {M : Type 1} → statement M
 tidy-spec =
     tie.close
     (tie.spec
-    read-sheet-requires
-    enum-known-read
-    enum-known-read-2
+    (λ c κs. search needs)
+    (λ c. search needs)
+    (λ c. search needs)
     tones-bytes-requires
-    add-bytes
-    words-bytes-requires
-    add-bytes-2
+    (λ c. search needs)
+    (λ c κs. search needs)
+    (λ c. search needs)
     returns
     put-line-requires
     returns-2
-    same-length
+    (λ c. search needs)
     returns-3)

@@ -8,30 +8,6 @@ use Rattle.running.proofs.Changes.{followed}
 use Rattle.running.proofs.Running.give_up.Statement.{statement}
 use Rattle.running.proofs.Running.give_up.Tie as tie
 
-element-copy-out-bits : tie.Need-element-copy-out-bits
-element-copy-out-bits c = search needs
-
-sub-bits : tie.Need-sub-bits
-sub-bits c = search needs
-
-element-write-self : tie.Need-element-write-self
-element-write-self c = search needs
-
-sub-self : tie.Need-sub-self
-sub-self c = search needs
-
-element-copy-out-put-ranks : tie.Need-element-copy-out-put-ranks
-element-copy-out-put-ranks c = search needs
-
-mul-put-ranks : tie.Need-mul-put-ranks
-mul-put-ranks c = search needs
-
-element-copy-out-put-ranks-2 : tie.Need-element-copy-out-put-ranks-2
-element-copy-out-put-ranks-2 c = search needs
-
-element-copy-out-put-ranks-3 : tie.Need-element-copy-out-put-ranks-3
-element-copy-out-put-ranks-3 c = search needs
-
 -- where the function begins
 abbrev entry : tie.After-put-ranks-arg5 → tie.Start
 entry c = c .before .before .before .before .before .before .before
@@ -54,13 +30,13 @@ pub give-up-spec : {M : Type 1} → statement M
 give-up-spec =
     tie.close
     (tie.spec
-    element-copy-out-bits
-    sub-bits
-    element-write-self
-    sub-self
-    element-copy-out-put-ranks
-    mul-put-ranks
-    element-copy-out-put-ranks-2
-    element-copy-out-put-ranks-3
+    (λ c. search needs)
+    (λ c. search needs)
+    (λ c. search needs)
+    (λ c. search needs)
+    (λ c. search needs)
+    (λ c. search needs)
+    (λ c. search needs)
+    (λ c. search needs)
     put-ranks-requires
     returns)

@@ -16,21 +16,6 @@ use Rattle.running.proofs.Changes.{takes-inside, gives-up-inside, knows
 use Rattle.running.proofs.Running.step.Statement.{statement}
 use Rattle.running.proofs.Running.step.Tie as tie
 
-least-requires : tie.Need-least-requires
-least-requires c κs = search needs
-
-enum-told : tie.Need-enum-told
-enum-told c = search needs
-
-enum-told-2 : tie.Need-enum-told-2
-enum-told-2 c = search needs
-
-least-requires-2 : tie.Need-least-requires-2
-least-requires-2 c κs = search needs
-
-sub-latest : tie.Need-sub-latest
-sub-latest c = search needs
-
 -- a running table has bits for the most tones
 long : (s : tie.Start) → length (s .args .self .bits) ≡ mostTones
 long s = search needs
@@ -66,23 +51,11 @@ exchanges : (c : tie.After-next3) → let R = c .before .before .before .before 
     Exchanges (R .tones) (R .table) (c .next3 .given .0 .0) (c .next3 .given .0 .1 .0)
 exchanges c = (rw (c .next3 .given .1) at (known (c .before .before))) .1
 
-enum-told-3 : tie.Need-enum-told-3
-enum-told-3 c = search needs
-
-enum-known-next : tie.Need-enum-known-next
-enum-known-next c = search needs
-
 take-requires : tie.Need-take-requires
 take-requires c κs = can-take (c .before .before .before .before .before .before .before .before .before .pre .0) (takes (c .before .before .before))
 
-enum-known-next-2 : tie.Need-enum-known-next-2
-enum-known-next-2 c = search needs
-
 give-up-requires : tie.Need-give-up-requires
 give-up-requires c κs = can-give-up (c .before .before .before .before .before .before .before .before .before .pre .0) (gives-up (c .before .before .before))
-
-enum-known-next-3 : tie.Need-enum-known-next-3
-enum-known-next-3 c = search needs
 
 give-up-requires-2 : tie.Need-give-up-requires-2
 give-up-requires-2 c κs =
@@ -140,18 +113,18 @@ pub step-spec : {M : Type 1} → statement M
 step-spec =
     tie.close
     (tie.spec
-    least-requires
-    enum-told
-    enum-told-2
-    least-requires-2
-    sub-latest
+    (λ c κs. search needs)
+    (λ c. search needs)
+    (λ c. search needs)
+    (λ c κs. search needs)
+    (λ c. search needs)
     next-move-requires
-    enum-told-3
-    enum-known-next
+    (λ c. search needs)
+    (λ c. search needs)
     take-requires
-    enum-known-next-2
+    (λ c. search needs)
     give-up-requires
-    enum-known-next-3
+    (λ c. search needs)
     give-up-requires-2
     take-requires-2
     returns

@@ -9,29 +9,8 @@ use Rattle.running.proofs.Changes.{limit-small, followed}
 use Rattle.running.proofs.Running.take.Statement.{statement}
 use Rattle.running.proofs.Running.take.Tie as tie
 
-element-copy-out-bits : tie.Need-element-copy-out-bits
-element-copy-out-bits c = search needs
-
 add-bits : tie.Need-add-bits
 add-bits c = let P = c .before .pre in record { fits = omega (arith, limit-small (P .in-range) _ (P .tone), P .free) }
-
-element-write-self : tie.Need-element-write-self
-element-write-self c = search needs
-
-add-self : tie.Need-add-self
-add-self c = search needs
-
-element-copy-out-put-ranks : tie.Need-element-copy-out-put-ranks
-element-copy-out-put-ranks c = search needs
-
-mul-put-ranks : tie.Need-mul-put-ranks
-mul-put-ranks c = search needs
-
-element-copy-out-put-ranks-2 : tie.Need-element-copy-out-put-ranks-2
-element-copy-out-put-ranks-2 c = search needs
-
-element-copy-out-put-ranks-3 : tie.Need-element-copy-out-put-ranks-3
-element-copy-out-put-ranks-3 c = search needs
 
 -- where the function begins
 abbrev entry : tie.After-put-ranks-arg5 → tie.Start
@@ -55,13 +34,13 @@ pub take-spec : {M : Type 1} → statement M
 take-spec =
     tie.close
     (tie.spec
-    element-copy-out-bits
+    (λ c. search needs)
     add-bits
-    element-write-self
-    add-self
-    element-copy-out-put-ranks
-    mul-put-ranks
-    element-copy-out-put-ranks-2
-    element-copy-out-put-ranks-3
+    (λ c. search needs)
+    (λ c. search needs)
+    (λ c. search needs)
+    (λ c. search needs)
+    (λ c. search needs)
+    (λ c. search needs)
     put-ranks-requires
     returns)

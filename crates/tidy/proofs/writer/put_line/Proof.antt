@@ -61,26 +61,11 @@ kept-words c = c .put-words .kept .0 ∙ kept-tones (c .before .before .before .
 slice-write-out : tie.Need-slice-write-out
 slice-write-out c = omega (arith, room c)
 
-cast-put-number : tie.Need-cast-put-number
-cast-put-number c = search needs
-
-put-number-requires : tie.Need-put-number-requires
-put-number-requires c κs = search needs
-
 slice-write-out-2 : tie.Need-slice-write-out-2
 slice-write-out-2 c = rw (kept (c .before .before)) (omega (arith, room (begun (c .before .before))))
 
-cast-put-number-2 : tie.Need-cast-put-number-2
-cast-put-number-2 c = search needs
-
-put-number-requires-2 : tie.Need-put-number-requires-2
-put-number-requires-2 c κs = search needs
-
 slice-write-out-3 : tie.Need-slice-write-out-3
 slice-write-out-3 c = rw (kept-2 (c .before .before)) (omega (arith, room (begun-2 (c .before .before))))
-
-put-number-requires-3 : tie.Need-put-number-requires-3
-put-number-requires-3 c κs = search needs
 
 put-tones-requires : tie.Need-put-tones-requires
 put-tones-requires c κs =
@@ -123,13 +108,13 @@ put-line-spec =
     tie.close
     (tie.spec
     slice-write-out
-    cast-put-number
-    put-number-requires
+    (λ c. search needs)
+    (λ c κs. search needs)
     slice-write-out-2
-    cast-put-number-2
-    put-number-requires-2
+    (λ c. search needs)
+    (λ c κs. search needs)
     slice-write-out-3
-    put-number-requires-3
+    (λ c κs. search needs)
     put-tones-requires
     put-words-requires
     slice-write-out-4

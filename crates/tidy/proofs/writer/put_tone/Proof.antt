@@ -18,12 +18,6 @@ copy-requires c κs =
     let there = c .before .if1 .left in
     (omega (arith, k .pre .0 .whole there), omega (arith, length-copy (k .args .s .now) (k .args .place) there))
 
-add-result : tie.Need-add-result
-add-result c = search needs
-
-same-length : tie.Need-same-length
-same-length c = search needs
-
 returns-2 : tie.Need-returns-2
 returns-2 c =
     let a = c .before .before .before .before .before .before .before .args in
@@ -31,4 +25,4 @@ returns-2 c =
     (omega (arith, length-copy (a .s .now) (a .place) there), rw (copy-there (a .s .now) (a .place) there) (c .before .before .copy .ensures))
 
 pub put-tone-spec : {M : Type 1} → statement M
-put-tone-spec = tie.close (tie.spec returns copy-requires add-result same-length returns-2)
+put-tone-spec = tie.close (tie.spec returns copy-requires (λ c. search needs) (λ c. search needs) returns-2)
