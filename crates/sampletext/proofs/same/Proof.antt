@@ -5,7 +5,7 @@ use Prim.Native.Nat.{_-_}
 use native.Mathlib.Omega.{arith}
 use borrow.Author.Count.{below-more}
 use borrow.Author.Needs.{needs}
-use Rattle.sampletext.specs.Text.{SameBytes}
+use Rattle.sampletext.specs.Text.{room, SameBytes}
 use Rattle.sampletext.proofs.same.Statement.{statement}
 use Rattle.sampletext.proofs.same.Tie as tie
 
@@ -13,7 +13,7 @@ abbrev Inv-loop : tie.InvT-loop
 Inv-loop a b i₀ i = SameBytes i a b
 
 abbrev μ-loop : tie.MeasureT-loop
-μ-loop a b i₀ i = 4200 - i
+μ-loop a b i₀ i = room - i
 
 loop-holds : tie.Need-loop-holds Inv-loop μ-loop
 loop-holds c = λ j l. absurd (omega arith)
