@@ -1,10 +1,10 @@
 // The tones of a sheet as arrays of numbers, so that the runs have one path for both kinds. Each tone is decoded from its place in the
 // sheet, once.
 ghost use mathlib.Core.Path.{_≡_};
-ghost use Rattle.lists.specs.Lent.{before, after};
+ghost use Rattle.lists.specs.Lent.{before};
 ghost use Rattle.line.specs.Tone.{Gap};
 ghost use Rattle.line.specs.Line.{EntryInRange, entrySteps};
-ghost use Rattle.line.specs.Arrays.{arrays};
+ghost use Rattle.line.specs.Arrays.{arraysBefore, arraysAfter};
 ghost use Rattle.command.specs.Places.{entryAt};
 ghost use Rattle.sheet.specs.Reading.{reading};
 ghost use Rattle.sheet.specs.Index.{Indexed};
@@ -47,7 +47,7 @@ fn fill_arrays(
     doublings: &mut [u8; TONES],
 )
     requires { ⌜ Indexed (now s) header (now places) (now maps) ⌝ }
-    ensures { λ r. ⌜ HoldsLineOf (reading (before s)) (arrays (after limits) (after costs) (after doublings)) ⌝ }
+    ensures { λ r. ⌜ HoldsLineOf (reading (before s)) (arraysAfter limits costs doublings) ⌝ }
 {
     *limits = [0; TONES];
     *costs = [0; TONES];
@@ -72,7 +72,7 @@ pub fn read_tones(
     costs: &mut [u32; TONES],
     doublings: &mut [u8; TONES],
 ) -> Read
-    ensures { λ r. ⌜ TonesOf r (arrays (before limits) (before costs) (before doublings)) (arrays (after limits) (after costs) (after doublings)) (reading (before s)) ⌝ }
+    ensures { λ r. ⌜ TonesOf r (arraysBefore limits costs doublings) (arraysAfter limits costs doublings) (reading (before s)) ⌝ }
 {
     let mut places: [u16; TONES] = [0; TONES];
     let mut maps: [u32; WORDS] = [0; WORDS];

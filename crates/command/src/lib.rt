@@ -13,6 +13,7 @@ ghost use Rattle.command.specs.Places.{toneAt, entryAt};
 ghost use Rattle.command.specs.Rows.{rowAt, width, bytesOf, withCode};
 ghost use Rattle.command.specs.Format.{today, addressed, commandAt};
 ghost use Rattle.command.specs.Codes.{rowOf, toneRow, silenceRow};
+use line::GAP_UNIT;
 use line::Kind;
 use line::Numbers;
 use line::Tone;
@@ -128,7 +129,7 @@ fn header_command(s: &[u8], at: usize, code: u8, header: Header) -> Command
     }
     let n = bigendian::number_at(s, at + 1, 2);
     if code == 2 {
-        if n < 256 {
+        if n < GAP_UNIT {
             return out_of_range(at + 1);
         }
         return Command::Head(Header {

@@ -4,8 +4,11 @@
 use mathlib.Core.List.{List}
 use mathlib.Core.Path.{_≡_}
 use Prim.Native.Nat.{ℕ, suc, _-_, _*_, _^_, _≤_, _<_}
+use denote.Ref.{RefT}
+use denote.Triple.Both.{Both}
 use lib.ListN.{length, getD}
 use Rattle.sizes.specs.Sizes.{mostTones}
+use Rattle.lists.specs.Lent.{before, after}
 use Rattle.steps.specs.Tones.{Tones, Rising, Table, _!_, totalPower, KeepsLimits}
 use Rattle.line.specs.Line.{Line, stepsAt}
 
@@ -16,6 +19,13 @@ pub record Arrays : Type 0 where
 
 abbrev pub arrays : (limits costs doublings : List ℕ) → Arrays
 arrays limits costs doublings = record { limits = limits; costs = costs; doublings = doublings }
+
+-- lent arrays as they are when a call begins, and when it ends
+abbrev pub arraysBefore : {X Y Z : Type 0} → Both (RefT (List ℕ)) X → Both (RefT (List ℕ)) Y → Both (RefT (List ℕ)) Z → Arrays
+arraysBefore limits costs doublings = arrays (before limits) (before costs) (before doublings)
+
+abbrev pub arraysAfter : {X Y Z : Type 0} → Both X (RefT (List ℕ)) → Both Y (RefT (List ℕ)) → Both Z (RefT (List ℕ)) → Arrays
+arraysAfter limits costs doublings = arrays (after limits) (after costs) (after doublings)
 
 -- what they hold of tone i
 abbrev pub limitAt : Arrays → (i : ℕ) → ℕ

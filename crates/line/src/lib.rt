@@ -6,7 +6,7 @@ ghost use Rattle.line.specs.Arrays.{powerIn};
 ghost use Rattle.line.specs.Tone.{carried, doublings, InRange, Gap, Cost, cost, power, limit};
 
 // The unit of the gap: a gap of 256 is none.
-const GAP_UNIT: u64 = 256;
+pub const GAP_UNIT: u64 = 256;
 
 // What a tone of either kind carries: noise, gain, cap and mask.
 pub struct Numbers {

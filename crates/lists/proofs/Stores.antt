@@ -1,13 +1,13 @@
--- Lists of one value, lists after a store, and lists that are filled from the front.
+-- Lists of one value, lists after a store or after stores from the start on, and lists that are filled from the front.
 -- Assumes nothing.
-use mathlib.Core.List.{List}
-use mathlib.Core.Path.{_≡_, refl, sym, _∙_}
+use mathlib.Core.List.{List, _++_}
+use mathlib.Core.Path.{_≡_, refl, ap, sym, _∙_}
 use Prim.Native.Nat.{ℕ, zero, suc, _+_, _≤_, _<_}
 use native.Mathlib.Decide.{decLe, ℕ-discrete}
 use native.Mathlib.Omega.{arith}
 use borrow.Author.Count.{below-more}
-use lib.ListN.{length, getD, set, replicate, length-set, length-replicate}
-use lib.Seq.{getD-set-same, getD-set-other}
+use lib.ListN.{length, drop, getD, set, replicate, length-set, length-replicate}
+use lib.Seq.{sets, sets-eq, getD-set-same, getD-set-other}
 
 -- every element of a list of one value is that value, and so is what lies past its end
 pub all-same : {A : Type 0} (n i : ℕ) (a : A) → getD (replicate n a) i a ≡ a
@@ -51,3 +51,9 @@ filled-all {room} {f} {xs} {n} F zeros k = by (decLe n k)
     by : Dec (n ≤ k) → getD xs k 0 ≡ f k
     by (yes l) = F .past k l ∙ sym (zeros k l)
     by (no m) = F .front k (omega arith)
+
+-- stores from the start on leave the list that was stored, and behind it what stood there
+pub from-start : (xs out : List ℕ) → length xs ≤ length out → sets out 0 xs ≡ xs ++ drop (length xs) out
+from-start xs out h =
+    let e : 0 + length xs ≡ length xs = omega arith in
+    sets-eq xs out 0 (omega arith) ∙ ap (λ n. xs ++ drop n out) e

@@ -1,7 +1,7 @@
 // The loadings and the re-fit of a line's tones into a lent buffer, with refusals 8 to 11. Document 01, 'The loading runs' and 'Why a sheet
 // is turned down'.
 ghost use Rattle.lists.specs.Lent.{before, after};
-ghost use Rattle.line.specs.Arrays.{arrays};
+ghost use Rattle.line.specs.Arrays.{arrays, arraysBefore};
 ghost use Rattle.loadings.specs.Loads.{mostOn, targetOn, SomeTones, ForTones, LoadsAs};
 ghost use Rattle.loadings.specs.Refits.{refitUpTo, RefitsAs};
 use command::Refusal;
@@ -34,7 +34,7 @@ pub fn most(
     table: &mut [u8],
 ) -> Loaded
     requires { ⌜ SomeTones size (arrays (now limits) (now costs) (now doublings)) ⌝ }
-    ensures { λ r. ⌜ ForTones size (arrays (before limits) (before costs) (before doublings)) (λ T. LoadsAs r (before table) (after table) (mostOn T budget)) ⌝ }
+    ensures { λ r. ⌜ ForTones size (arraysBefore limits costs doublings) (λ T. LoadsAs r (before table) (after table) (mostOn T budget)) ⌝ }
 {
     let count = size as usize;
     if table.len() < TONE_BYTES * count {
@@ -68,7 +68,7 @@ pub fn target(
     table: &mut [u8],
 ) -> Loaded
     requires { ⌜ SomeTones size (arrays (now limits) (now costs) (now doublings)) ⌝ }
-    ensures { λ r. ⌜ ForTones size (arrays (before limits) (before costs) (before doublings)) (λ T. LoadsAs r (before table) (after table) (targetOn T budget target)) ⌝ }
+    ensures { λ r. ⌜ ForTones size (arraysBefore limits costs doublings) (λ T. LoadsAs r (before table) (after table) (targetOn T budget target)) ⌝ }
 {
     let count = size as usize;
     if table.len() < TONE_BYTES * count {
@@ -109,7 +109,7 @@ pub fn refit(
     table: &mut [u8],
 ) -> Refitted
     requires { ⌜ SomeTones size (arrays (now limits) (now costs) (now doublings)) ⌝ }
-    ensures { λ r. ⌜ ForTones size (arrays (before limits) (before costs) (before doublings)) (λ T. RefitsAs r (before table) (after table) (refitUpTo most T budget (before start))) ⌝ }
+    ensures { λ r. ⌜ ForTones size (arraysBefore limits costs doublings) (λ T. RefitsAs r (before table) (after table) (refitUpTo most T budget (before start))) ⌝ }
 {
     let count = size as usize;
     if table.len() < TONE_BYTES * count {

@@ -5,7 +5,7 @@ ghost use Prim.Native.Nat.{suc, _*_, _^_, _≤_, _<_};
 ghost use lib.ListN.{length, set};
 ghost use Rattle.sizes.specs.Sizes.{mostTones};
 ghost use Rattle.lists.specs.Lent.{before, after};
-ghost use Rattle.line.specs.Arrays.{arrays, ArraysInRange, Under, stepSize};
+ghost use Rattle.line.specs.Arrays.{arrays, arraysBefore, ArraysInRange, Under, stepSize};
 ghost use Rattle.ranks.specs.Ranks.{freeRank, heldRank, NoneFrom, Ranked};
 use sizes::TONES;
 
@@ -88,7 +88,7 @@ pub fn fill_ranks(
     requires { ⌜ Under count (arrays (now limits) (now costs) (now doublings)) (now bits) ⌝ }
     requires { ⌜ NoneFrom count (now free) ⌝ }
     requires { ⌜ NoneFrom count (now held) ⌝ }
-    ensures { λ r. ⌜ Ranked count (arrays (before limits) (before costs) (before doublings)) (before bits) (after free) (after held) ⌝ }
+    ensures { λ r. ⌜ Ranked count (arraysBefore limits costs doublings) (before bits) (after free) (after held) ⌝ }
 {
     let mut i: usize = 0;
     while i < count {

@@ -2,7 +2,7 @@
 // goes into a step and comes back with the answer 'moved' or 'finished'.'
 ghost use mathlib.Core.Path.{_≡_};
 ghost use Rattle.lists.specs.Lent.{before, after};
-ghost use Rattle.line.specs.Arrays.{arrays};
+ghost use Rattle.line.specs.Arrays.{arrays, arraysBefore};
 ghost use Rattle.ranks.specs.Ranks.{Ranked};
 ghost use Rattle.running.specs.Running.{taken, givenUp, CanTake, CanGiveUp, Follow, Runnable, StepsBy, RunsBy};
 use moves::Move;
@@ -48,7 +48,7 @@ impl Running {
     ) -> Running
         requires { ⌜ CanTake (arrays (now limits) (now costs) (now doublings)) self f ⌝ }
         ensures { λ r. ⌜ r ≡ taken self f ⌝ }
-        ensures { λ r. ⌜ Follow (arrays (before limits) (before costs) (before doublings)) f self r (before free) (before held) (after free) (after held) ⌝ }
+        ensures { λ r. ⌜ Follow (arraysBefore limits costs doublings) f self r (before free) (before held) (after free) (after held) ⌝ }
     {
         let tone = f.tone;
         let bits = self.bits[tone] + 1;
@@ -78,7 +78,7 @@ impl Running {
     ) -> Running
         requires { ⌜ CanGiveUp (arrays (now limits) (now costs) (now doublings)) self h ⌝ }
         ensures { λ r. ⌜ r ≡ givenUp self h ⌝ }
-        ensures { λ r. ⌜ Follow (arrays (before limits) (before costs) (before doublings)) h self r (before free) (before held) (after free) (after held) ⌝ }
+        ensures { λ r. ⌜ Follow (arraysBefore limits costs doublings) h self r (before free) (before held) (after free) (after held) ⌝ }
     {
         let tone = h.tone;
         let bits = self.bits[tone] - 1;
@@ -110,8 +110,8 @@ impl Running {
     ) -> Stepped
         requires { ⌜ Runnable count (arrays (now limits) (now costs) (now doublings)) self ⌝ }
         requires { ⌜ Ranked count (arrays (now limits) (now costs) (now doublings)) (self .bits) (now free) (now held) ⌝ }
-        ensures answer { λ r. ⌜ StepsBy count (arrays (before limits) (before costs) (before doublings)) rule budget self r ⌝ }
-        ensures ranks { λ r. ⌜ Ranked count (arrays (before limits) (before costs) (before doublings)) (r .running .bits) (after free) (after held) ⌝ }
+        ensures answer { λ r. ⌜ StepsBy count (arraysBefore limits costs doublings) rule budget self r ⌝ }
+        ensures ranks { λ r. ⌜ Ranked count (arraysBefore limits costs doublings) (r .running .bits) (after free) (after held) ⌝ }
     {
         let earliest = search::least(count, free);
         let latest = match rule {
@@ -155,7 +155,7 @@ pub fn run(
     doublings: &[u8; TONES],
 ) -> Ended
     requires { ⌜ Runnable count (arrays (now limits) (now costs) (now doublings)) start ⌝ }
-    ensures { λ r. ⌜ RunsBy count (arrays (before limits) (before costs) (before doublings)) rule most budget start r ⌝ }
+    ensures { λ r. ⌜ RunsBy count (arraysBefore limits costs doublings) rule most budget start r ⌝ }
 {
     let bits = start.bits;
     let mut free = [u64::MAX; TONES];

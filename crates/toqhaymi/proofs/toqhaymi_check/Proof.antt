@@ -13,16 +13,19 @@ returns c = short-answers _ _ _ (c .before .if1 .taken) (c .without-room .ensure
 check-requires : tie.Need-check-requires
 check-requires c κs = search needs
 
-answer-check-requires : tie.Need-answer-check-requires
-answer-check-requires c κs = search needs
+of-check-requires : tie.Need-of-check-requires
+of-check-requires c κs = search needs
+
+put-requires : tie.Need-put-requires
+put-requires c κs = search needs
 
 same-length : tie.Need-same-length
 same-length c = search needs
 
 returns-2 : tie.Need-returns-2
 returns-2 c =
-    let called = c .before .before .before .before in
-    long-answers _ _ (called .before .if1 .left) (called .check .ensures .1) (c .before .before .answer-check .ensures)
+    let said = c .before .before .before .before in
+    long-answers _ _ (said .before .before .if1 .left) (said .before .check .ensures .1) (said .of-check .ensures) (c .before .before .put .ensures)
 
 pub toqhaymi-check-spec : {M : Type 1} → statement M
 toqhaymi-check-spec =
@@ -31,6 +34,7 @@ toqhaymi-check-spec =
     without-room-requires
     returns
     check-requires
-    answer-check-requires
+    of-check-requires
+    put-requires
     same-length
     returns-2)

@@ -13,8 +13,11 @@ returns c = short-writes _ _ _ (c .before .if1 .taken) (c .without-room .ensures
 tidy-requires : tie.Need-tidy-requires
 tidy-requires c κs = search needs
 
-answer-tidy-requires : tie.Need-answer-tidy-requires
-answer-tidy-requires c κs = search needs
+of-tidy-requires : tie.Need-of-tidy-requires
+of-tidy-requires c κs = search needs
+
+put-requires : tie.Need-put-requires
+put-requires c κs = search needs
 
 same-length : tie.Need-same-length
 same-length c = search needs
@@ -24,9 +27,10 @@ same-length-2 c = search needs
 
 returns-2 : tie.Need-returns-2
 returns-2 c =
-    let called = c .before .before .before .before .before .before in
+    let said = c .before .before .before .before in
+    let called = said .before .before .before in
     let e = called .tidy .ensures in
-    long-writes _ _ (called .before .before .if1 .left) (e .1 .0) (c .before .before .answer-tidy .ensures) _ (e .1 .1)
+    long-writes _ _ (called .before .before .if1 .left) (e .1 .0) (said .of-tidy .ensures) (c .before .before .put .ensures) _ (e .1 .1 .0)
 
 pub toqhaymi-tidy-spec : {M : Type 1} → statement M
 toqhaymi-tidy-spec =
@@ -35,7 +39,8 @@ toqhaymi-tidy-spec =
     without-room-requires
     returns
     tidy-requires
-    answer-tidy-requires
+    of-tidy-requires
+    put-requires
     same-length
     same-length-2
     returns-2)
