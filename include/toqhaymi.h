@@ -7,7 +7,7 @@
  * the repository, and once it is installed (./install PREFIX, with
  * PREFIX/lib/pkgconfig in PKG_CONFIG_PATH):
  *   $ cc -I include examples/load.c target/staticlib/libtoqhaymi.a -o load
- *   cc load.c $(pkg-config --cflags --libs toqhaymi) -o load
+ *   $ cc examples/load.c $(pkg-config --cflags --libs toqhaymi) -o load
  *
  * Stack. A call takes no memory but its caller's buffers and its own stack: at
  * most TOQHAYMI_STACK_BYTES, measured (tests/run), not proved.

@@ -53,7 +53,7 @@ impl Given {
     fn run(&self, folder: &Path) -> Result<(), String> {
         let told = |failure: String| format!("{}: $ {}\n{failure}", self.at, self.command);
         let mut shell = Command::new("sh");
-        shell.args(["-c", &format!("{{ {}\n}} 2>&1", self.command)]);
+        shell.args(["-c", &format!("exec 2>&1\n{}", self.command)]);
         shell.current_dir(self.folder(folder)).stdin(Stdio::null());
         if self.folder(folder) == folder {
             // The archive is where the documents say.
@@ -92,12 +92,14 @@ fn commands(name: &str, text: &str) -> Vec<Given> {
     found
 }
 
-/// All commands, in a folder that looks like a clone with its programs built.
+/// All commands, in a folder that looks like a clone with its programs built. What
+/// the prover has done once it does not do again.
 pub fn run(folder: &Path, without: &[&str]) -> Result<String, String> {
     let (mut count, mut left_out) = (0, 0);
+    let mut proved: Vec<String> = Vec::new();
     for name in DOCUMENTS {
         for given in commands(name, &text(name)?) {
-            if given.is_runner() {
+            if given.is_runner() || proved.contains(&given.command) {
                 continue;
             }
             if given.lacks(without) {
@@ -106,6 +108,9 @@ pub fn run(folder: &Path, without: &[&str]) -> Result<String, String> {
             }
             given.run(folder)?;
             count += 1;
+            if given.first_word() == "rt" {
+                proved.push(given.command);
+            }
         }
     }
     match left_out {

@@ -1,5 +1,6 @@
 //! What the documents name: files that are there, and in them the names that they
-//! are said to have; and the crates, which are those of crates.txt.
+//! are said to have; blocks that are marked with a file, whose lines it has; and the
+//! crates, which are those of crates.txt.
 
 use std::path::Path;
 
@@ -56,6 +57,22 @@ fn check_line(at: &str, line: &str) -> Result<usize, String> {
     Ok(count)
 }
 
+/// Every line of a block that is marked with a file, as in "```rust crates/..", is in it.
+fn check_blocks(name: &str, document: &str) -> Result<usize, String> {
+    let (mut file, mut count) = (None, 0);
+    for (number, line) in document.lines().enumerate() {
+        if let Some(mark) = line.strip_prefix("```") {
+            file = mark.split(' ').nth(1).map(text).transpose()?;
+        } else if let Some(file) = &file {
+            if !file.lines().any(|other| other.trim() == line.trim()) {
+                return Err(format!("{name}:{}: its file has no such line", number + 1));
+            }
+            count += 1;
+        }
+    }
+    Ok(count)
+}
+
 /// The crates in README's table are those of crates.txt, in its order.
 fn check_crates() -> Result<usize, String> {
     let listed = text("crates.txt")?;
@@ -78,11 +95,14 @@ fn check_crates() -> Result<usize, String> {
 }
 
 pub fn check() -> Result<String, String> {
-    let mut count = 0;
+    let (mut count, mut lines) = (0, 0);
     for name in DOCUMENTS {
-        for (number, line) in text(name)?.lines().enumerate() {
+        let document = text(name)?;
+        for (number, line) in document.lines().enumerate() {
             count += check_line(&format!("{name}:{}", number + 1), line)?;
         }
+        lines += check_blocks(name, &document)?;
     }
-    Ok(format!("{count} files and names in them, {} crates", check_crates()?))
+    let crates = check_crates()?;
+    Ok(format!("{count} files and names in them, {lines} lines quoted, {crates} crates"))
 }
