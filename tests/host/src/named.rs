@@ -30,7 +30,8 @@ fn names_before<'a>(parts: &[(&'a str, &'a str)], path: usize) -> Vec<&'a str> {
     }
     let mut names = vec![parts[path - 1].1];
     for at in (1..path).rev() {
-        if parts[at].0 != ", " && parts[at].0 != " and " {
+        let is_listed = parts[at].0 == ", " || parts[at].0 == " and ";
+        if !is_listed || is_path(parts[at - 1].1) {
             break;
         }
         names.push(parts[at - 1].1);
