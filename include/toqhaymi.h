@@ -55,7 +55,7 @@ extern "C" {
 #define TOQHAYMI_VERSION_PATCH 0
 
 /* The most stack that a call takes, in bytes. */
-#define TOQHAYMI_STACK_BYTES 32768
+#define TOQHAYMI_STACK_BYTES 16384
 
 /* Sizes in bytes, and the most tones that a line has. */
 #define TOQHAYMI_LARGEST_SHEET 4096
