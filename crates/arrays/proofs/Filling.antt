@@ -13,7 +13,7 @@ use Rattle.silence.specs.Map.{bit, silenced}
 use Rattle.line.specs.declared.Steps.{Steps}
 use Rattle.line.specs.Tone.{Gap}
 use Rattle.line.specs.Line.{undescribed, described, Line, entryOf, EntryInRange, noSteps, entrySteps, stepsAt}
-use Rattle.line.specs.Arrays.{Arrays, arrays, ArraysOf}
+use Rattle.line.specs.Arrays.{arrays, ArraysOf}
 use Rattle.command.specs.declared.Header.{Header}
 use Rattle.command.specs.Places.{toneAt, entryAt}
 use Rattle.sheet.specs.Index.{Indexes, Indexed}

@@ -1,7 +1,7 @@
 -- What reading a sheet into the arrays of its tones answers and leaves.
 -- Assumes nothing.
 use mathlib.Core.Path.{_≡_}
-use Rattle.line.specs.Line.{Line, LineInRange}
+use Rattle.line.specs.Line.{LineInRange}
 use Rattle.line.specs.Arrays.{Arrays, ArraysOf}
 use Rattle.sheet.specs.declared.Read.{Read}
 use Rattle.sheet.specs.declared.Read.the-variants as read

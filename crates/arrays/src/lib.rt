@@ -72,7 +72,8 @@ pub fn read_tones(
     costs: &mut [u32; TONES],
     doublings: &mut [u8; TONES],
 ) -> Read
-    ensures { λ r. ⌜ TonesOf r (arraysBefore limits costs doublings) (arraysAfter limits costs doublings) (reading (before s)) ⌝ }
+    ensures { λ r. ⌜ TonesOf r (arrays (before limits) (before costs) (before doublings))
+        (arrays (after limits) (after costs) (after doublings)) (reading (before s)) ⌝ }
 {
     let mut places: [u16; TONES] = [0; TONES];
     let mut maps: [u32; WORDS] = [0; WORDS];

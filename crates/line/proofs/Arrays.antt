@@ -6,20 +6,20 @@ use mathlib.Core.List.{List}
 use Prim.Native.Nat.{ℕ, suc, _-_, _*_, _^_, _≤_, _<_}
 use native.Mathlib.Nat.{mul-le-mul-left, le-trans}
 use native.Mathlib.Omega.{arith}
-use lib.ListN.{getD, replicate, length-replicate, getD-replicate}
+use lib.ListN.{getD, replicate, length-replicate}
 use Rattle.sizes.specs.Sizes.{mostTones}
 use Rattle.lists.proofs.Stores.{all-same}
 use Rattle.silence.specs.Map.{silenced}
-use Rattle.steps.specs.Tones.{Tones, step, Rising, Table, _!_, noBits, sum, totalBits, totalPower, KeepsLimits}
+use Rattle.steps.specs.Tones.{Tones, step, Rising, Table, _!_, noBits, sum, totalBits}
 use Rattle.steps.proofs.Sums.{sum-zero, sum-eq}
 use Rattle.line.specs.declared.Steps.{Steps}
 use Rattle.line.specs.Tone.{Gap, cost, doublings, limit}
 use Rattle.line.specs.Line.{Entry, undescribed, described, Line, entryOf, entryLimit, tones, EntryInRange, LineInRange, noSteps, entrySteps, stepsAt}
-use Rattle.line.specs.Arrays.{Arrays, limitAt, costAt, doublingsAt, powerAt, stepSize, ArraysInRange, Under, Describes, StandsFor, ArraysOf}
+use Rattle.line.specs.Arrays.{Arrays, costAt, doublingsAt, stepSize, ArraysInRange, Under, Describes, StandsFor, ArraysOf}
 use Rattle.line.proofs.Ceiling.{cost-range}
 use Rattle.line.proofs.Growth.{doublings-low, shift-at-most}
 use Rattle.line.proofs.Limits.{limit-is}
-use Rattle.line.proofs.Loads.{line-power, line-rising}
+use Rattle.line.proofs.Loads.{line-power}
 
 -- ---- the arrays of a line
 

@@ -1,8 +1,7 @@
--- From the outcome of a loading of tones to that of a call on bytes: the sheet's refusal, or the loading of its line's tones; with the
--- paper's numbers.
+-- From the outcome of a loading of tones to that of a call on bytes: the sheet's refusal, or the loading of its line's tones.
 -- Assumes nothing.
 use mathlib.Core.List.{List}
-use mathlib.Core.Path.{_≡_, refl}
+use mathlib.Core.Path.{_≡_, refl, fun-ext}
 use Prim.Native.Nat.{ℕ}
 use Rattle.sizes.specs.Sizes.{mostBitsOfAll}
 use Rattle.steps.specs.Tones.{Tones}
@@ -13,14 +12,10 @@ use Rattle.line.proofs.Masks.{limits-high}
 use Rattle.line.proofs.Arrays.{line-arrays-in-range, line-describes}
 use Rattle.command.specs.declared.Refusal.{Refusal}
 use Rattle.command.specs.declared.Header.{Header}
-use Rattle.loadings.specs.declared.Loaded.{Loaded}
-use Rattle.loadings.specs.declared.Loaded.the-variants as load
-use Rattle.loadings.specs.declared.Refitted.{Refitted}
-use Rattle.loadings.specs.declared.Refitted.the-variants as re-fit
-use Rattle.loadings.specs.Loads.{Loading, loadAnswer, afterLoading, Loadable, SomeTones, ForTones}
-use Rattle.loadings.specs.Refits.{refitAnswer, refitUpTo, refitOn, stepOn}
+use Rattle.loadings.specs.Loads.{Loading, turned-down, Loadable, SomeTones, ForTones}
+use Rattle.loadings.specs.Refits.{refitUpTo, refitOn, stepOn}
 use Rattle.loadings.proofs.UpTo.{whole-refit, single-step}
-use Rattle.sheet.specs.Reading.{Meaning, accepted, refused, headerOf, reading}
+use Rattle.sheet.specs.Reading.{Meaning, accepted, refused, reading}
 use Rattle.sheet.proofs.Sound.{Bytes, accepted-sound}
 use Rattle.sheet.specs.declared.Read.{Read}
 use Rattle.sheet.specs.declared.Read.the-variants as read
@@ -50,43 +45,30 @@ module _ {h : Header} {A : Arrays} {m : Meaning} (x : HeldLine h A m) where
   some-tones = record { tones = tones (x .line); loadable = held-loadable }
 
   -- what holds of all tones that the arrays describe holds of the line's, within the line's budget
-  pub on-held : (P : Loading → Type 0) (on : Tones → (budget : ℕ) → Loading) → ForTones (h .size) A (λ T. P (on T (h .budget))) → P (onLine m on)
+  pub on-held : (P : ((room : ℕ) → Loading) → Type 0) (on : Tones → (budget room : ℕ) → Loading) → ForTones (h .size) A (λ T. P (on T (h .budget))) → P (λ room. onLine m (λ T budget. on T budget room))
   on-held P on f = rw (x .means) (rw (← x .header-is) at (f (tones (x .line)) held-loadable))
 
--- ---- answer and buffer of a call
-
-abbrev pub LoadPair : Loaded → (old new : List ℕ) → Loading → Type 0
-LoadPair r old new x = (r ≡ loadAnswer x) × (new ≡ afterLoading x old)
-
-abbrev pub RefitPair : Refitted → (old new : List ℕ) → Loading → Type 0
-RefitPair r old new x = (r ≡ refitAnswer x) × (new ≡ afterLoading x old)
-
 -- a sheet that was refused
-module _ {m : Meaning} {q : Refusal} (e : m ≡ refused q) (old : List ℕ) (on : Tones → (budget : ℕ) → Loading) where
-  pub load-refused : LoadPair (load.Refused q) old old (onLine m on)
-  load-refused = rw e (refl, refl)
-
-  pub refit-refused : RefitPair (re-fit.Refused q) old old (onLine m on)
-  refit-refused = rw e (refl, refl)
+pub not-loaded : {m : Meaning} {q : Refusal} → m ≡ refused q → (on : Tones → (budget : ℕ) → Loading) → onLine m on ≡ turned-down q
+not-loaded e on = rw e
 
 -- ---- the two re-fits that the code makes
 
-module _ (s : List ℕ) (b : Bytes s) (start : List ℕ) (room : ℕ) where
-  pub whole : refitBy mostBitsOfAll s start room ≡ refit s start room
-  unfolding refitBy refit
-  whole = by (reading s) (λ l e. accepted-sound s b l e .in-range)
-    where
-      by : (m : Meaning) → ((l : Line) → m ≡ accepted l → LineInRange l)
-          → onLine m (λ T budget. refitUpTo mostBitsOfAll T budget start room) ≡ onLine m (λ T budget. refitOn T budget start room)
-      by (refused q) f = refl
-      by (accepted l) f =
-          let I = f l refl in
-          whole-refit (tones l) (line-rising l I) (limits-high l I) (l .budget) (no-bits-fit l I (l .budget)) start room
-
-pub single : (s start : List ℕ) (room : ℕ) → refitBy 1 s start room ≡ oneStep s start room
-unfolding refitBy oneStep
-single s start room = by (reading s)
+pub whole : (s : List ℕ) → Bytes s → (start : List ℕ) → refitBy mostBitsOfAll s start ≡ refit s start
+unfolding refitBy refit
+whole s b start = fun-ext (λ room. by room (reading s) (λ l e. accepted-sound s b l e .in-range))
   where
-    by : (m : Meaning) → onLine m (λ T budget. refitUpTo 1 T budget start room) ≡ onLine m (λ T budget. stepOn T budget start room)
-    by (refused q) = refl
-    by (accepted l) = single-step (tones l) (l .budget) start room
+    by : (room : ℕ) (m : Meaning) → ((l : Line) → m ≡ accepted l → LineInRange l)
+        → onLine m (λ T budget. refitUpTo mostBitsOfAll T budget start room) ≡ onLine m (λ T budget. refitOn T budget start room)
+    by room (refused q) f = refl
+    by room (accepted l) f =
+        let I = f l refl in
+        whole-refit (tones l) (line-rising l I) (limits-high l I) (l .budget) (no-bits-fit l I (l .budget)) start room
+
+pub single : (s start : List ℕ) → refitBy 1 s start ≡ oneStep s start
+unfolding refitBy oneStep
+single s start = fun-ext (λ room. by room (reading s))
+  where
+    by : (room : ℕ) (m : Meaning) → onLine m (λ T budget. refitUpTo 1 T budget start room) ≡ onLine m (λ T budget. stepOn T budget start room)
+    by room (refused q) = refl
+    by room (accepted l) = single-step (tones l) (l .budget) start room

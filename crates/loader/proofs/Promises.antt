@@ -4,13 +4,12 @@
 use mathlib.Core.List.{List, _++_}
 use mathlib.Core.Path.{_≡_, refl, ap, sym, subst, _∙_}
 use Prim.Native.Nat.{ℕ, _*_, _≤_}
-use native.Mathlib.Omega.{arith}
 use borrow.Author.Tests.{le-ltb, eq-eqb}
 use lib.ListN.{length, drop, take}
 use lib.Seq.{take-at}
 use Rattle.sizes.specs.Sizes.{bytesATone, mostBitsOfAll}
-use Rattle.steps.specs.Tones.{Table, noBits, totalBits, totalPower, KeepsLimits, KeepsBudget}
-use Rattle.steps.specs.Runs.{addStep, mostBits, refitRun, setBits}
+use Rattle.steps.specs.Tones.{Table, noBits, KeepsLimits, KeepsBudget}
+use Rattle.steps.specs.Runs.{mostBits, refitRun}
 use Rattle.steps.specs.Claims.{Best, Demand3}
 use Rattle.line.specs.Line.{Line, LineInRange, tones}
 use Rattle.line.proofs.Loads.{line-demand-3, line-set-bits, no-bits-keep}
@@ -19,8 +18,8 @@ use Rattle.tables.specs.Tables.{tableBytes}
 use Rattle.tables.proofs.Entries.{length-entries}
 use Rattle.loadings.specs.declared.Loaded.{Loaded}
 use Rattle.loadings.specs.declared.Refitted.{Refitted}
-use Rattle.loadings.specs.Loads.{Loading, loaded, turned-down, mostOn, onTarget, targetOn, loadAnswer, loadNumbers, loadOutcome, afterLoading}
-use Rattle.loadings.specs.Refits.{refitOn, refitAnswer, refitNumbers, refitOutcome}
+use Rattle.loadings.specs.Loads.{Loading, loaded, mostOn, targetOn, loadAnswer, loadNumbers, loadOutcome, afterLoading, LoadsAs}
+use Rattle.loadings.specs.Refits.{refitOn, refitAnswer, refitNumbers, refitOutcome, RefitsAs}
 use Rattle.sheet.specs.Reading.{accepted, reading}
 use Rattle.sheet.proofs.Sound.{Bytes, accepted-sound}
 use Rattle.tidyform.specs.Tidy.{tidy}
@@ -28,7 +27,7 @@ use Rattle.tidyform.proofs.Tidied.{tidy-keeps}
 use Rattle.tidy.specs.Tidying.{afterTidying}
 use Rattle.loader.specs.Calls.{loadMost, loadTarget, refit, oneStep, refitBy}
 use Rattle.loader.specs.Claims.{MostBits, MostBitsOn, SameLoading, Demand3On, TargetMet, TargetOn, TidyOn}
-use Rattle.loader.proofs.Outcomes.{LoadPair, RefitPair, whole, single}
+use Rattle.loader.proofs.Outcomes.{whole, single}
 
 module _ (sheet : List ℕ) (b : Bytes sheet) (l : Line) (e : reading sheet ≡ accepted l) (old new : List ℕ) (h : bytesATone * l .size ≤ length old) where
   in-range : LineInRange l
@@ -82,38 +81,30 @@ module _ (sheet : List ℕ) (b : Bytes sheet) (l : Line) (e : reading sheet ≡ 
 
 -- ---- what each call has to show: its answer, that in the paper's numbers, the buffer, and its promise
 
-load-numbers : (x : Loading) → loadNumbers (loadAnswer x) ≡ loadOutcome x
-load-numbers (loaded T r) = refl
-load-numbers (turned-down q) = refl
-
-refit-numbers : (x : Loading) → refitNumbers (refitAnswer x) ≡ refitOutcome x
-refit-numbers (loaded T r) = refl
-refit-numbers (turned-down q) = refl
-
 abbrev LoadCall : Loaded → (old new : List ℕ) → Loading → Type 0 → Type 0
 LoadCall r old new x Promise = (r ≡ loadAnswer x) × ((loadNumbers r ≡ loadOutcome x) × ((new ≡ afterLoading x old) × Promise))
 
-abbrev RefitCall : Refitted → (old new : List ℕ) → Loading → Type 0 → Type 0
-RefitCall r old new x Rest = (r ≡ refitAnswer x) × ((refitNumbers r ≡ refitOutcome x) × Rest)
+abbrev RefitCall : Refitted → Loading → Type 0 → Type 0
+RefitCall r x Rest = (r ≡ refitAnswer x) × ((refitNumbers r ≡ refitOutcome x) × Rest)
 
 module _ (s : List ℕ) (b : Bytes s) (old new : List ℕ) where
-  pub most-call : {r : Loaded} → LoadPair r old new (loadMost s (length old)) → LoadCall r old new (loadMost s (length old)) (MostBitsOn s r old new)
-  most-call p = (p .0, (ap loadNumbers (p .0) ∙ load-numbers (loadMost s (length old)), (p .1, λ l e h. most-bits s b l e old new h (p .0) (p .1))))
+  pub most-call : {r : Loaded} → LoadsAs r old new (loadMost s) → LoadCall r old new (loadMost s (length old)) (MostBitsOn s r old new)
+  most-call p = (p .answer, (p .numbers, (p .bytes, λ l e h. most-bits s b l e old new h (p .answer) (p .bytes))))
 
-  pub target-call : (target : ℕ) {r : Loaded} → LoadPair r old new (loadTarget s target (length old)) → LoadCall r old new (loadTarget s target (length old)) (TargetOn s target r old)
-  target-call target p = (p .0, (ap loadNumbers (p .0) ∙ load-numbers (loadTarget s target (length old)), (p .1, λ l e h. target-met s b l e old new h target (p .0))))
+  pub target-call : (target : ℕ) {r : Loaded} → LoadsAs r old new (loadTarget s target) → LoadCall r old new (loadTarget s target (length old)) (TargetOn s target r old)
+  target-call target p = (p .answer, (p .numbers, (p .bytes, λ l e h. target-met s b l e old new h target (p .answer))))
 
-  pub refit-call : (start : List ℕ) {r : Refitted} → RefitPair r old new (refitBy mostBitsOfAll s start (length old))
-      → RefitCall r old new (refit s start (length old)) ((new ≡ afterLoading (refit s start (length old)) old) × Demand3On s start r old new)
+  pub refit-call : (start : List ℕ) {r : Refitted} → RefitsAs r old new (refitBy mostBitsOfAll s start)
+      → RefitCall r (refit s start (length old)) ((new ≡ afterLoading (refit s start (length old)) old) × Demand3On s start r old new)
   refit-call start {r} x =
-      let p : RefitPair r old new (refit s start (length old)) = rw (whole s b start (length old)) at x in
-      (p .0, (ap refitNumbers (p .0) ∙ refit-numbers (refit s start (length old)), (p .1, λ l e h w. same-loading s b l e old new h start w (p .0) (p .1))))
+      let p : RefitsAs r old new (refit s start) = rw (whole s b start) at x in
+      (p .answer, (p .numbers, (p .bytes, λ l e h w. same-loading s b l e old new h start w (p .answer) (p .bytes))))
 
-  pub step-call : (start : List ℕ) {r : Refitted} → RefitPair r old new (refitBy 1 s start (length old))
-      → RefitCall r old new (oneStep s start (length old)) (new ≡ afterLoading (oneStep s start (length old)) old)
+  pub step-call : (start : List ℕ) {r : Refitted} → RefitsAs r old new (refitBy 1 s start)
+      → RefitCall r (oneStep s start (length old)) (new ≡ afterLoading (oneStep s start (length old)) old)
   step-call start {r} x =
-      let p : RefitPair r old new (oneStep s start (length old)) = rw (single s start (length old)) at x in
-      (p .0, (ap refitNumbers (p .0) ∙ refit-numbers (oneStep s start (length old)), p .1))
+      let p : RefitsAs r old new (oneStep s start) = rw (single s start) at x in
+      (p .answer, (p .numbers, p .bytes))
 
 -- ---- tidying
 

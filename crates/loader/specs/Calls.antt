@@ -4,7 +4,7 @@
 use mathlib.Core.List.{List}
 use Prim.Native.Nat.{ℕ}
 use Rattle.steps.specs.Tones.{Tones}
-use Rattle.line.specs.Line.{Line, tones}
+use Rattle.line.specs.Line.{tones}
 use Rattle.loadings.specs.Loads.{Loading, turned-down, mostOn, targetOn}
 use Rattle.loadings.specs.Refits.{refitOn, stepOn, refitUpTo}
 use Rattle.sheet.specs.Reading.{Meaning, accepted, refused, reading}

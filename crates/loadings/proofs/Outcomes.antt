@@ -1,19 +1,19 @@
--- The outcomes of the loadings of tones: which one each test of the code leads to, with its answer and its buffer.
+-- The outcomes of the loadings of tones: which one each test of the code leads to, with its answer, that in the paper's numbers, and its
+-- buffer.
 -- Assumes nothing.
 use mathlib.Core.List.{List, _++_}
 use mathlib.Core.Logic.{if-pos, if-neg}
 use mathlib.Core.Option.{none, some}
-use mathlib.Core.Path.{_≡_, ap, sym, _∙_}
+use mathlib.Core.Path.{_≡_, refl, ap, _∙_}
 use Prim.Native.Nat.{ℕ, _*_, _≤_, _<_}
 use native.Mathlib.Decide.{ℕ-discrete}
 use native.Mathlib.Omega.{arith}
 use borrow.Author.Tests.{lt-ltb, le-ltb, eq-eqb, ne-eqb}
 use lib.ListN.{length, drop, getD}
-use lib.Seq.{sets}
 use Rattle.sizes.specs.Sizes.{bytesATone}
 use Rattle.steps.specs.Tones.{Tones, Table, sum, noBits, totalBits}
 use Rattle.steps.specs.Runs.{Ran, addStep, refitStep, run, mostBits, carrying}
-use Rattle.line.specs.Arrays.{Arrays, StandsFor}
+use Rattle.line.specs.Arrays.{Arrays}
 use Rattle.line.proofs.Arrays.{stands-bits}
 use Rattle.command.specs.declared.Refusal.{Refusal}
 use Rattle.command.specs.declared.Refusal.the-variants.{DestinationTooSmall, StartLengthWrong, StartAboveLimit, TargetNotCarried}
@@ -22,20 +22,36 @@ use Rattle.running.specs.Running.{Stands}
 use Rattle.starts.specs.Starts.{firstAbove}
 use Rattle.tables.specs.Tables.{tableBytes, WritesTable}
 use Rattle.tables.proofs.Entries.{table-written}
+use Rattle.loadings.specs.declared.Loaded.{Loaded}
 use Rattle.loadings.specs.declared.Loaded.the-variants as load
+use Rattle.loadings.specs.declared.Refitted.{Refitted}
 use Rattle.loadings.specs.declared.Refitted.the-variants as re-fit
-use Rattle.loadings.specs.Loads.{Loading, loaded, turned-down, mostOn, onTarget, targetOn, Loadable, LoadsAs, loadAnswer, afterLoading}
-use Rattle.loadings.specs.Refits.{refitUpTo, RefitsAs}
+use Rattle.loadings.specs.Loads.{Loading, loaded, turned-down, mostOn, onTarget, targetOn, Loadable, LoadsAs, loadAnswer, loadOutcome, loadNumbers, afterLoading}
+use Rattle.loadings.specs.Refits.{refitUpTo, RefitsAs, refitAnswer, refitOutcome, refitNumbers}
 use Rattle.loadings.proofs.Runs.{target-run}
 
--- ---- answer and buffer of an outcome
+-- ---- answer, numbers and buffer of an outcome
+
+load-numbers : (x : Loading) → loadNumbers (loadAnswer x) ≡ loadOutcome x
+load-numbers (loaded T r) = refl
+load-numbers (turned-down q) = refl
+
+refit-numbers : (x : Loading) → refitNumbers (refitAnswer x) ≡ refitOutcome x
+refit-numbers (loaded T r) = refl
+refit-numbers (turned-down q) = refl
 
 module _ (on : (room : ℕ) → Loading) (old : List ℕ) where
+  loads-as : {r : Loaded} {new : List ℕ} → r ≡ loadAnswer (on (length old)) → new ≡ afterLoading (on (length old)) old → LoadsAs r old new on
+  loads-as a b = record { answer = a; numbers = ap loadNumbers a ∙ load-numbers (on (length old)); bytes = b }
+
+  refits-as : {r : Refitted} {new : List ℕ} → r ≡ refitAnswer (on (length old)) → new ≡ afterLoading (on (length old)) old → RefitsAs r old new on
+  refits-as a b = record { answer = a; numbers = ap refitNumbers a ∙ refit-numbers (on (length old)); bytes = b }
+
   pub load-refused : {r : Refusal} → on (length old) ≡ turned-down r → LoadsAs (load.Refused r) old old on
-  load-refused e = (simp e, simp e)
+  load-refused e = loads-as (simp e) (simp e)
 
   pub refit-refused : {r : Refusal} → on (length old) ≡ turned-down r → RefitsAs (re-fit.Refused r) old old on
-  refit-refused e = (simp e, simp e)
+  refit-refused e = refits-as (simp e) (simp e)
 
 -- the running table of a run, its total bits added up, and the buffer that it was written to
 pub record Wrote (count : ℕ) (A : Arrays) (T : Tones) (r : Running) (t : Table) (bits : ℕ) (old new : List ℕ) : Type 0 where
@@ -55,10 +71,10 @@ module _ {count : ℕ} {A : Arrays} {T : Tones} {ran : Ran} {r : Running} {bits 
       ∙ table-written T (ran .table) old (omega (arith, W .room, W .stands .describes .same-count))
 
   pub load-done : LoadsAs (load.Totals bits (r .power)) old new on
-  load-done = (simp (e, total, W .stands .same-power), simp e buffer)
+  load-done = loads-as on old (simp (e, total, W .stands .same-power)) (simp e buffer)
 
   pub refit-done : {moves : ℕ} → moves ≡ ran .moves → RefitsAs (re-fit.Totals bits (r .power) moves) old new on
-  refit-done m = (simp (e, total, W .stands .same-power, m), simp e buffer)
+  refit-done m = refits-as on old (simp (e, total, W .stands .same-power, m)) (simp e buffer)
 
 -- ---- which outcome it is, for so many tones in a buffer of so many bytes
 

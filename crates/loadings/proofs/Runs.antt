@@ -1,8 +1,8 @@
 -- The runs of loadable tones: their sums fit, the moves that the code allows are enough, one of them is the single step, and what the last
 -- step of an adding run answers.
 -- Assumes nothing.
-use mathlib.Core.Path.{_≡_, refl, sym, ap, _∙_}
-use Prim.Native.Nat.{ℕ, zero, suc, _+_, _*_, _^_, _≤_, _<_}
+use mathlib.Core.Path.{_≡_, refl, sym, _∙_}
+use Prim.Native.Nat.{ℕ, _+_, _*_, _^_, _≤_, _<_}
 use native.Mathlib.Decide.{decLt}
 use native.Mathlib.Nat.{lt-of-lt-of-le, mul-le-mul, mul-le-mul-left, le-trans}
 use native.Mathlib.Omega.{arith}
@@ -13,7 +13,7 @@ use Rattle.steps.specs.Tones.{Tones, Table, _!_, noBits, totalBits, totalPower,
 use Rattle.steps.specs.Runs.{Answer, moved, finished, addStep, Ran, follow, run, mostBits, carrying, setBits}
 use Rattle.steps.proofs.Enough.{moves-at-most, most-bits-enough, set-bits-adds, bits-are-moves}
 use Rattle.steps.proofs.Sums.{sum-at-most}
-use Rattle.line.specs.Arrays.{Arrays, limitAt, costAt, doublingsAt, powerAt, ArraysInRange, PowersInRange, Describes}
+use Rattle.line.specs.Arrays.{Arrays, limitAt, doublingsAt, PowersInRange}
 use Rattle.line.proofs.Arrays.{no-bits-stand, stands-under, shift-under}
 use Rattle.running.specs.declared.Running.{Running}
 use Rattle.running.specs.declared.Progress.{Progress}

@@ -3,12 +3,12 @@
 use mathlib.Core.List.{List}
 use mathlib.Core.Option.{none, some}
 use mathlib.Core.Path.{_≡_, ap, sym, _∙_}
-use Prim.Native.Nat.{ℕ, _≤_, _<_}
+use Prim.Native.Nat.{ℕ, _<_}
 use native.Mathlib.Nat.{mul-le-mul-left, le-trans}
 use native.Mathlib.Omega.{arith}
 use lib.ListN.{length}
 use Rattle.steps.specs.Tones.{Tones, KeepsLimits}
-use Rattle.line.specs.Arrays.{Arrays, limitAt, doublingsAt, PowersInRange}
+use Rattle.line.specs.Arrays.{Arrays, doublingsAt, PowersInRange}
 use Rattle.running.specs.declared.Running.{Running}
 use Rattle.running.specs.Running.{Stands}
 use Rattle.starts.specs.declared.Above.{Above}

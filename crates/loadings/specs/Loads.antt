@@ -74,6 +74,8 @@ pub record SomeTones (count : ℕ) (A : Arrays) : Type 0 where
 abbrev pub ForTones : (count : ℕ) → Arrays → (Tones → Type 0) → Type 0
 ForTones count A P = (T : Tones) → Loadable count A T → P T
 
--- answer and buffer of a loading into a buffer
-abbrev pub LoadsAs : Loaded → (old new : List ℕ) → ((room : ℕ) → Loading) → Type 0
-LoadsAs r old new on = (r ≡ loadAnswer (on (length old))) × (new ≡ afterLoading (on (length old)) old)
+-- a loading into a buffer: its answer, that in the paper's numbers, and the buffer
+pub record LoadsAs (r : Loaded) (old new : List ℕ) (on : (room : ℕ) → Loading) : Type 0 where
+  pub answer : r ≡ loadAnswer (on (length old))
+  pub numbers : loadNumbers r ≡ loadOutcome (on (length old))
+  pub bytes : new ≡ afterLoading (on (length old)) old

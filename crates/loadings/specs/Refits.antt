@@ -59,6 +59,8 @@ abbrev pub refitNumbers : Refitted → Outcome
 refitNumbers (Totals bits power moves) = success (bits ∷ power ∷ moves ∷ [])
 refitNumbers (Refused r) = refusal 3 r
 
--- answer and buffer of a re-fit into a buffer
-abbrev pub RefitsAs : Refitted → (old new : List ℕ) → ((room : ℕ) → Loading) → Type 0
-RefitsAs r old new on = (r ≡ refitAnswer (on (length old))) × (new ≡ afterLoading (on (length old)) old)
+-- a re-fit into a buffer: its answer, that in the paper's numbers, and the buffer
+pub record RefitsAs (r : Refitted) (old new : List ℕ) (on : (room : ℕ) → Loading) : Type 0 where
+  pub answer : r ≡ refitAnswer (on (length old))
+  pub numbers : refitNumbers r ≡ refitOutcome (on (length old))
+  pub bytes : new ≡ afterLoading (on (length old)) old

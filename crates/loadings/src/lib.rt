@@ -34,7 +34,8 @@ pub fn most(
     table: &mut [u8],
 ) -> Loaded
     requires { ⌜ SomeTones size (arrays (now limits) (now costs) (now doublings)) ⌝ }
-    ensures { λ r. ⌜ ForTones size (arraysBefore limits costs doublings) (λ T. LoadsAs r (before table) (after table) (mostOn T budget)) ⌝ }
+    ensures { λ r. ⌜ ForTones size (arrays (before limits) (before costs) (before doublings))
+        (λ T. LoadsAs r (before table) (after table) (mostOn T budget)) ⌝ }
 {
     let count = size as usize;
     if table.len() < TONE_BYTES * count {
@@ -68,7 +69,8 @@ pub fn target(
     table: &mut [u8],
 ) -> Loaded
     requires { ⌜ SomeTones size (arrays (now limits) (now costs) (now doublings)) ⌝ }
-    ensures { λ r. ⌜ ForTones size (arraysBefore limits costs doublings) (λ T. LoadsAs r (before table) (after table) (targetOn T budget target)) ⌝ }
+    ensures { λ r. ⌜ ForTones size (arrays (before limits) (before costs) (before doublings))
+        (λ T. LoadsAs r (before table) (after table) (targetOn T budget target)) ⌝ }
 {
     let count = size as usize;
     if table.len() < TONE_BYTES * count {
@@ -109,7 +111,8 @@ pub fn refit(
     table: &mut [u8],
 ) -> Refitted
     requires { ⌜ SomeTones size (arrays (now limits) (now costs) (now doublings)) ⌝ }
-    ensures { λ r. ⌜ ForTones size (arraysBefore limits costs doublings) (λ T. RefitsAs r (before table) (after table) (refitUpTo most T budget (before start))) ⌝ }
+    ensures { λ r. ⌜ ForTones size (arrays (before limits) (before costs) (before doublings))
+        (λ T. RefitsAs r (before table) (after table) (refitUpTo most T budget (before start))) ⌝ }
 {
     let count = size as usize;
     if table.len() < TONE_BYTES * count {

@@ -1,7 +1,5 @@
 -- `arrays::steps_at` meets its contract. Assumes nothing.
-use mathlib.Core.Path.{_≡_, sym}
 use borrow.Author.Needs.{needs}
-use Rattle.line.specs.Line.{EntryInRange}
 use Rattle.arrays.proofs.Filling.{entry-there, entry-none}
 use Rattle.arrays.proofs.steps_at.Statement.{statement}
 use Rattle.arrays.proofs.steps_at.Tie as tie

@@ -10,10 +10,6 @@ use Rattle.line.proofs.Growth.{power-zero}
 use Rattle.line.proofs.Limits.{Tried, cap-high, mask-stops, cap-stops}
 use Rattle.line.proofs.limit.Statement.{statement}
 use Rattle.line.proofs.limit.Tie as tie
-use Rattle.line.proofs.limit.Reads as reads
-use Rattle.line.proofs.limit.Lts as lts
-use Rattle.line.proofs.carried.Reads as carried-reads
-use Rattle.line.proofs.power.Reads as power-reads
 
 abbrev Inv-loop : tie.InvT-loop
 Inv-loop tone cost n cap bits₀ bits = Tried tone cost bits

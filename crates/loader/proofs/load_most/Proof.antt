@@ -1,7 +1,8 @@
 -- `loader::load_most` meets its contract. Assumes nothing.
-use Rattle.loadings.specs.Loads.{mostOn}
+use Rattle.loadings.specs.Loads.{mostOn, LoadsAs}
+use Rattle.loadings.proofs.Outcomes.{load-refused}
 use Rattle.loader.specs.Calls.{loadMost}
-use Rattle.loader.proofs.Outcomes.{held, refusal-is, some-tones, on-held, LoadPair, load-refused}
+use Rattle.loader.proofs.Outcomes.{held, refusal-is, some-tones, on-held, not-loaded}
 use Rattle.loader.proofs.Promises.{most-call}
 use borrow.Author.Needs.{needs}
 use Rattle.loader.proofs.load_most.Statement.{statement}
@@ -27,7 +28,7 @@ returns c =
     let t = c .before .before .before in
     let k = t .before .before .before .before .before in
     let a = k .before .args in
-    most-call (a .s .now) (λ i. k .shared-slice-known .given i .fits) (a .table .now) _ (load-refused (refusal-is (t .read-tones .ensures) (c .before .read .given .1)) _ _)
+    most-call (a .s .now) (λ i. k .shared-slice-known .given i .fits) (a .table .now) _ (load-refused (loadMost (a .s .now)) _ (not-loaded (refusal-is (t .read-tones .ensures) (c .before .read .given .1)) _))
 
 same-length : tie.Need-same-length
 same-length c = search needs
@@ -39,7 +40,7 @@ returns-2 c =
     let k = t .before .before .before .before .before in
     let a = k .before .args in
     most-call (a .s .now) (λ i. k .shared-slice-known .given i .fits) (a .table .now) _
-    (on-held (held (t .read-tones .ensures) (c .before .before .before .before .before .before .before .before .read2 .given .1)) (LoadPair _ _ _) (λ T budget. mostOn T budget _) (c .before .before .most .ensures))
+    (on-held (held (t .read-tones .ensures) (c .before .before .before .before .before .before .before .before .read2 .given .1)) (LoadsAs _ _ _) mostOn (c .before .before .most .ensures))
 
 pub load-most-spec : {M : Type 1} → statement M
 load-most-spec =

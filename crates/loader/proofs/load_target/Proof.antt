@@ -1,7 +1,8 @@
 -- `loader::load_target` meets its contract. Assumes nothing.
-use Rattle.loadings.specs.Loads.{targetOn}
+use Rattle.loadings.specs.Loads.{targetOn, LoadsAs}
+use Rattle.loadings.proofs.Outcomes.{load-refused}
 use Rattle.loader.specs.Calls.{loadTarget}
-use Rattle.loader.proofs.Outcomes.{held, refusal-is, some-tones, on-held, LoadPair, load-refused}
+use Rattle.loader.proofs.Outcomes.{held, refusal-is, some-tones, on-held, not-loaded}
 use Rattle.loader.proofs.Promises.{target-call}
 use borrow.Author.Needs.{needs}
 use Rattle.loader.proofs.load_target.Statement.{statement}
@@ -27,7 +28,7 @@ returns c =
     let t = c .before .before .before in
     let k = t .before .before .before .before .before in
     let a = k .before .args in
-    target-call (a .s .now) (λ i. k .shared-slice-known .given i .fits) (a .table .now) _ (a .target) (load-refused (refusal-is (t .read-tones .ensures) (c .before .read .given .1)) _ _)
+    target-call (a .s .now) (λ i. k .shared-slice-known .given i .fits) (a .table .now) _ (a .target) (load-refused (loadTarget (a .s .now) (a .target)) _ (not-loaded (refusal-is (t .read-tones .ensures) (c .before .read .given .1)) _))
 
 same-length : tie.Need-same-length
 same-length c = search needs
@@ -39,7 +40,7 @@ returns-2 c =
     let k = t .before .before .before .before .before in
     let a = k .before .args in
     target-call (a .s .now) (λ i. k .shared-slice-known .given i .fits) (a .table .now) _ (a .target)
-    (on-held (held (t .read-tones .ensures) (c .before .before .before .before .before .before .before .before .read2 .given .1)) (LoadPair _ _ _) (λ T budget. targetOn T budget _ _) (c .before .before .target .ensures))
+    (on-held (held (t .read-tones .ensures) (c .before .before .before .before .before .before .before .before .read2 .given .1)) (LoadsAs _ _ _) (λ T budget. targetOn T budget (a .target)) (c .before .before .target .ensures))
 
 pub load-target-spec : {M : Type 1} → statement M
 load-target-spec =
