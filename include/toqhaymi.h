@@ -6,8 +6,8 @@
  * Build. Link with libtoqhaymi.a, which needs no other library. At the root of
  * the repository, and once it is installed (./install PREFIX, with
  * PREFIX/lib/pkgconfig in PKG_CONFIG_PATH):
- *   $ cc -I include examples/load.c target/staticlib/libtoqhaymi.a -o load
- *   $ cc examples/load.c $(pkg-config --cflags --libs toqhaymi) -o load
+ *   $ cc -I include examples/load.c target/staticlib/libtoqhaymi.a -o target/load
+ *   $ cc examples/load.c $(pkg-config --cflags --libs toqhaymi) -o target/load
  *
  * Stack. A call takes no memory but its caller's buffers and its own stack: at
  * most TOQHAYMI_STACK_BYTES, measured (tests/run), not proved.
