@@ -4,7 +4,7 @@ ghost use mathlib.Core.Path.{_≡_};
 ghost use Rattle.lists.specs.Lent.{before};
 ghost use Rattle.line.specs.Tone.{Gap};
 ghost use Rattle.line.specs.Line.{EntryInRange, entrySteps};
-ghost use Rattle.line.specs.Arrays.{arraysBefore, arraysAfter};
+ghost use Rattle.line.specs.Arrays.{arraysAfter};
 ghost use Rattle.command.specs.Places.{entryAt};
 ghost use Rattle.sheet.specs.Reading.{reading};
 ghost use Rattle.sheet.specs.Index.{Indexed};

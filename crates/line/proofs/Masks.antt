@@ -7,7 +7,7 @@ use native.Mathlib.Nat.{le-trans}
 use native.Mathlib.Omega.{arith}
 use Rattle.sizes.specs.Sizes.{mostBitsOfAll}
 use Rattle.silence.specs.Map.{silenced}
-use Rattle.steps.specs.Tones.{Table, _!_, totalPower, sumOfLimits, KeepsLimits}
+use Rattle.steps.specs.Tones.{sumOfLimits}
 use Rattle.steps.proofs.Sums.{sum-at-most}
 use Rattle.line.specs.Tone.{cost}
 use Rattle.line.specs.Line.{Entry, undescribed, described, Line, entryOf, entryLimit, entryPower, entryMask, tones, EntryInRange, LineInRange}
@@ -42,8 +42,3 @@ module _ (l : Line) (I : LineInRange l) where
   pub limits-high : sumOfLimits (tones l) ≤ mostBitsOfAll
   limits-high =
       omega (arith, I .size-high, sum-at-most (l .size) 15 (tones l .limit) (λ i il. limit-high (l .gap) (entryOf l i) (silenced (l .maps) i) (I .entries i il)))
-
-  -- the total power of a table within the limits
-  pub total-high : (t : Table) → KeepsLimits (tones l) t → totalPower (tones l) t ≤ 2 ^ 55
-  total-high t w =
-      omega (arith, I .size-high, sum-at-most (l .size) (2 ^ 47) (λ i. tones l .power i (t ! i)) (λ i il. power-high i (t ! i) il (w .under i il)))

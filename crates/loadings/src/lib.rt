@@ -1,7 +1,7 @@
 // The loadings and the re-fit of a line's tones into a lent buffer, with refusals 8 to 11. Document 01, 'The loading runs' and 'Why a sheet
 // is turned down'.
 ghost use Rattle.lists.specs.Lent.{before, after};
-ghost use Rattle.line.specs.Arrays.{arrays, arraysBefore};
+ghost use Rattle.line.specs.Arrays.{arrays};
 ghost use Rattle.loadings.specs.Loads.{mostOn, targetOn, SomeTones, ForTones, LoadsAs};
 ghost use Rattle.loadings.specs.Refits.{refitUpTo, RefitsAs};
 use command::Refusal;

@@ -97,7 +97,7 @@ impl Running {
     }
 
     // One step of a rule: the one move that it names, or none.
-    pub fn step(
+    fn step(
         mut self,
         rule: Rule,
         budget: u64,
