@@ -5,21 +5,6 @@ use borrow.Author.Needs.{needs}
 use Rattle.answers.proofs.of_refit.Statement.{statement}
 use Rattle.answers.proofs.of_refit.Tie as tie
 
-enum-known-refitted : tie.Need-enum-known-refitted
-enum-known-refitted c = search needs
-
-of-refusal-requires : tie.Need-of-refusal-requires
-of-refusal-requires c κs = search needs
-
-enum-known-refitted-2 : tie.Need-enum-known-refitted-2
-enum-known-refitted-2 c = search needs
-
-cast-t7 : tie.Need-cast-t7
-cast-t7 c = search needs
-
-cast-t8 : tie.Need-cast-t8
-cast-t8 c = search needs
-
 returns : tie.Need-returns
 returns c = rw (c .before .before .refitted .given .1) (c .of-refusal .ensures 3)
 
@@ -30,10 +15,10 @@ pub of-refit-spec : {M : Type 1} → statement M
 of-refit-spec =
     tie.close
     (tie.spec
-    enum-known-refitted
-    of-refusal-requires
-    enum-known-refitted-2
-    cast-t7
-    cast-t8
+    (λ c. search needs)
+    (λ c κs. search needs)
+    (λ c. search needs)
+    (λ c. search needs)
+    (λ c. search needs)
     returns
     returns-2)

@@ -5,11 +5,8 @@ use Rattle.answers.proofs.Stored.{says-refusal}
 use Rattle.answers.proofs.of_refusal.Statement.{statement}
 use Rattle.answers.proofs.of_refusal.Tie as tie
 
-refused-requires : tie.Need-refused-requires
-refused-requires c κs = search needs
-
 returns : tie.Need-returns
 returns c = λ n. says-refusal n (c .before .args .why) (c .refused .ensures) refl
 
 pub of-refusal-spec : {M : Type 1} → statement M
-of-refusal-spec = tie.close (tie.spec refused-requires returns)
+of-refusal-spec = tie.close (tie.spec (λ c κs. search needs) returns)
