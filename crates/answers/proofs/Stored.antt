@@ -18,7 +18,7 @@ use Rattle.sheet.specs.declared.Checked.{Checked}
 use Rattle.sheet.specs.declared.Checked.the-variants as checked
 use Rattle.sheet.specs.Reading.{Meaning, accepted, refused, reading}
 use Rattle.sheet.specs.Check.{checking}
-use Rattle.answers.specs.declared.Answer.{Answer}
+use Rattle.answers.specs.declared.Reply.{Reply}
 use Rattle.answers.specs.Answers.{code, answerBytes, answersIn, shown, answered, written, Says, withoutRoom}
 
 -- ---- the stores
@@ -94,17 +94,17 @@ pub untouched : (n : ℕ) (q : Refusal) (old : List ℕ) → answered (refusal n
 unfolding answerBytes
 untouched n q old = rw (none-shown n q)
 
-pub says-refusal : (n : ℕ) (q : Refusal) {a : Answer} → a .returned ≡ code (refusal 0 q) → a .count ≡ 0 → Says a (refusal n q)
+pub says-refusal : (n : ℕ) (q : Refusal) {a : Reply} → a .returned ≡ code (refusal 0 q) → a .count ≡ 0 → Says a (refusal n q)
 says-refusal n q {a} e z = record { returned = e; few = omega arith; numbers = rw (z, none-shown n q) }
 
 -- what `put` shows of an answer, and what a call has to show that ends in an outcome: of its result, and of the answer buffer
-abbrev pub Puts : Answer → (old after : List ℕ) → (result : ℕ) → Type 0
+abbrev pub Puts : Reply → (old after : List ℕ) → (result : ℕ) → Type 0
 Puts a old after result = (result ≡ a .returned) × (after ≡ answersIn (written a) old)
 
 abbrev pub Ends : Outcome → (old after : List ℕ) → (result : ℕ) → Type 0
 Ends o old after result = (result ≡ code o) × (after ≡ answered o old)
 
-pub ends : {a : Answer} {o : Outcome} → Says a o → (old : List ℕ) {after : List ℕ} {result : ℕ} → Puts a old after result → Ends o old after result
+pub ends : {a : Reply} {o : Outcome} → Says a o → (old : List ℕ) {after : List ℕ} {result : ℕ} → Puts a old after result → Ends o old after result
 ends S old p = (p .0 ∙ S .returned, p .1 ∙ ap (λ xs. answersIn xs old) (S .numbers))
 
 -- ---- a call without room

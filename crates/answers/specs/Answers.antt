@@ -11,7 +11,7 @@ use Rattle.bigendian.specs.Number.{bytes}
 use Rattle.command.specs.declared.Refusal.the-variants.{DestinationTooSmall}
 use Rattle.command.specs.Refusals.{Outcome, refusal}
 use Rattle.sheet.specs.Reading.{Meaning, accepted, refused}
-use Rattle.answers.specs.declared.Answer.{Answer}
+use Rattle.answers.specs.declared.Reply.{Reply}
 
 abbrev pub code : Outcome → ℕ
 code o = o .number * 2 ^ 32 + o .place
@@ -34,11 +34,11 @@ abbrev pub answered : Outcome → (old : List ℕ) → List ℕ
 answered o old = answersIn (shown o) old
 
 -- what the code's answer writes: so many of its three numbers
-abbrev pub written : Answer → List ℕ
+abbrev pub written : Reply → List ℕ
 written a = take (a .count) (a .first ∷ a .second ∷ a .third ∷ [])
 
 -- The code's answer says an outcome: it returns its code and writes its answers.
-pub record Says (a : Answer) (o : Outcome) : Type 0 where
+pub record Says (a : Reply) (o : Outcome) : Type 0 where
   pub returned : a .returned ≡ code o
   pub few : a .count ≤ 3
   pub numbers : written a ≡ shown o

@@ -18,7 +18,7 @@ use sheet::Checked;
 use tidy::Tidied;
 
 // What a host call answers: the number that it returns, and how many of three numbers it writes.
-pub struct Answer {
+pub struct Reply {
     pub returned: u64,
     pub count: usize,
     pub first: u64,
@@ -34,10 +34,10 @@ fn refused(why: Refusal) -> u64
 }
 
 // A refusal writes no answers, however many the call has.
-fn of_refusal(why: Refusal) -> Answer
+fn of_refusal(why: Refusal) -> Reply
     ensures { λ r. ⌜ ((count : ℕ) → Says r (refusal count why)) ⌝ }
 {
-    Answer {
+    Reply {
         returned: refused(why),
         count: 0,
         first: 0,
@@ -57,12 +57,12 @@ pub fn without_room(sheet: &[u8]) -> u64
     }
 }
 
-pub fn of_check(checked: Checked) -> Answer
+pub fn of_check(checked: Checked) -> Reply
     ensures { λ r. ⌜ Says r (checkNumbers checked) ⌝ }
 {
     match checked {
         Checked::Refused(why) => of_refusal(why),
-        Checked::Counts(size, described, silenced) => Answer {
+        Checked::Counts(size, described, silenced) => Reply {
             returned: 0,
             count: 3,
             first: size as u64,
@@ -72,12 +72,12 @@ pub fn of_check(checked: Checked) -> Answer
     }
 }
 
-pub fn of_load(loaded: Loaded) -> Answer
+pub fn of_load(loaded: Loaded) -> Reply
     ensures { λ r. ⌜ Says r (loadNumbers loaded) ⌝ }
 {
     match loaded {
         Loaded::Refused(why) => of_refusal(why),
-        Loaded::Totals(bits, power) => Answer {
+        Loaded::Totals(bits, power) => Reply {
             returned: 0,
             count: 2,
             first: bits as u64,
@@ -87,12 +87,12 @@ pub fn of_load(loaded: Loaded) -> Answer
     }
 }
 
-pub fn of_refit(refitted: Refitted) -> Answer
+pub fn of_refit(refitted: Refitted) -> Reply
     ensures { λ r. ⌜ Says r (refitNumbers refitted) ⌝ }
 {
     match refitted {
         Refitted::Refused(why) => of_refusal(why),
-        Refitted::Totals(bits, power, moves) => Answer {
+        Refitted::Totals(bits, power, moves) => Reply {
             returned: 0,
             count: 3,
             first: bits as u64,
@@ -102,12 +102,12 @@ pub fn of_refit(refitted: Refitted) -> Answer
     }
 }
 
-pub fn of_tidy(tidied: Tidied) -> Answer
+pub fn of_tidy(tidied: Tidied) -> Reply
     ensures { λ r. ⌜ Says r (tidyNumbers tidied) ⌝ }
 {
     match tidied {
         Tidied::Refused(why) => of_refusal(why),
-        Tidied::Length(length) => Answer {
+        Tidied::Length(length) => Reply {
             returned: 0,
             count: 1,
             first: length as u64,
@@ -118,7 +118,7 @@ pub fn of_tidy(tidied: Tidied) -> Answer
 }
 
 // Writes the answers of a call to the start of a buffer, and hands back what the call returns.
-pub fn put(answer: Answer, buffer: &mut [u8]) -> u64
+pub fn put(answer: Reply, buffer: &mut [u8]) -> u64
     requires { ⌜ answer .count ≤ 3 ⌝ }
     requires { ⌜ answerRoom ≤ length (now buffer) ⌝ }
     ensures returned { λ r. ⌜ r ≡ answer .returned ⌝ }

@@ -37,7 +37,7 @@ pub record Heads (s : List ℕ) (at stage next : ℕ) : Type 0 where
   pub early : stage < 3
 
 -- a tone is the one that the command addresses, of the line and not described before; its command is whole, and not one of the first three
-pub record Describes (h : Header) (known : Entry) (s : List ℕ) (at stage next i : ℕ) : Type 0 where
+pub record DescribesTone (h : Header) (known : Entry) (s : List ℕ) (at stage next i : ℕ) : Type 0 where
   pub there : There (length s) at next
   pub late : 3 ≤ stage
   pub code : (getD s at 0 ≡ 4) ⊎ (getD s at 0 ≡ 5)
@@ -63,7 +63,7 @@ abbrev pub Said : Header → (known : Entry) → List ℕ → (at stage next : �
 Said h known s at stage next (Refused q) = Unit {0}
 Said h known s at stage next End = Ends s at stage next
 Said h known s at stage next (Head h′) = Heads s at stage next
-Said h known s at stage next (Describe i) = Describes h known s at stage next i
+Said h known s at stage next (Describe i) = DescribesTone h known s at stage next i
 Said h known s at stage next (Silence word map) = Silences h s at stage next word map
 
 -- the same of what is decoded

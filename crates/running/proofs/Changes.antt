@@ -30,7 +30,7 @@ use Rattle.moves.proofs.Named.{small}
 use Rattle.running.specs.declared.Progress.the-variants.{Moved, Finished}
 use Rattle.running.specs.declared.Running.{Running}
 use Rattle.running.specs.declared.Stepped.{Stepped}
-use Rattle.running.specs.Running.{taken, givenUp, CanTake, CanGiveUp, Follow, Stands, Runnable, AnswersAs}
+use Rattle.running.specs.Running.{taken, givenUp, CanTake, CanGiveUp, RanksFollow, Stands, Runnable, AnswersAs}
 
 -- a tone that takes bits has a doubling, so its limit is at most 15
 pub limit-small : {count : ℕ} {A : Arrays} → ArraysInRange count A → (i : ℕ) → i < count → limitAt A i ≤ pairCap
@@ -45,7 +45,7 @@ pub followed : {A : Arrays} {s : Step} {r : Running} {free held newFree newHeld 
     → (length free ≡ mostTones) × (length held ≡ mostTones) → (b p : ℕ)
     → newFree ≡ set free (s .tone) (freeRank (s .tone) (limitAt A (s .tone)) (costAt A (s .tone)) (doublingsAt A (s .tone)) b)
     → newHeld ≡ set held (s .tone) (heldRank (s .tone) (costAt A (s .tone)) (doublingsAt A (s .tone)) b)
-    → Follow A s r (record { bits = set (r .bits) (s .tone) b; power = p }) free held newFree newHeld
+    → RanksFollow A s r (record { bits = set (r .bits) (s .tone) b; power = p }) free held newFree newHeld
 followed {s = s} l n m b p f h = record {
   follow = λ count q R. rw (f, h) (ranked-set R (s .tone) b q (omega arith) (omega arith) (omega arith));
 }

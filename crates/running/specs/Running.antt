@@ -48,7 +48,7 @@ pub record CanGiveUp (A : Arrays) (r : Running) (h : Step) : Type 0 where
   pub bounded : h .size ≤ r .power
 
 -- The kept ranks follow a move of this step: if they were those of the bits before it, they are those of the bits after it.
-pub record Follow (A : Arrays) (s : Step) (old new : Running) (free held newFree newHeld : List ℕ) : Type 0 where
+pub record RanksFollow (A : Arrays) (s : Step) (old new : Running) (free held newFree newHeld : List ℕ) : Type 0 where
   pub follow : (count : ℕ) → s .tone < count → Ranked count A (old .bits) free held → Ranked count A (new .bits) newFree newHeld
 
 module _ (count : ℕ) (A : Arrays) where

@@ -4,7 +4,7 @@ ghost use mathlib.Core.Path.{_≡_};
 ghost use Rattle.lists.specs.Lent.{before, after};
 ghost use Rattle.line.specs.Arrays.{arrays, arraysBefore};
 ghost use Rattle.ranks.specs.Ranks.{Ranked};
-ghost use Rattle.running.specs.Running.{taken, givenUp, CanTake, CanGiveUp, Follow, Runnable, StepsBy, RunsBy};
+ghost use Rattle.running.specs.Running.{taken, givenUp, CanTake, CanGiveUp, RanksFollow, Runnable, StepsBy, RunsBy};
 use moves::Move;
 use moves::Rule;
 use moves::Step;
@@ -48,7 +48,7 @@ impl Running {
     ) -> Running
         requires { ⌜ CanTake (arrays (now limits) (now costs) (now doublings)) self f ⌝ }
         ensures { λ r. ⌜ r ≡ taken self f ⌝ }
-        ensures { λ r. ⌜ Follow (arraysBefore limits costs doublings) f self r (before free) (before held) (after free) (after held) ⌝ }
+        ensures { λ r. ⌜ RanksFollow (arraysBefore limits costs doublings) f self r (before free) (before held) (after free) (after held) ⌝ }
     {
         let tone = f.tone;
         let bits = self.bits[tone] + 1;
@@ -78,7 +78,7 @@ impl Running {
     ) -> Running
         requires { ⌜ CanGiveUp (arrays (now limits) (now costs) (now doublings)) self h ⌝ }
         ensures { λ r. ⌜ r ≡ givenUp self h ⌝ }
-        ensures { λ r. ⌜ Follow (arraysBefore limits costs doublings) h self r (before free) (before held) (after free) (after held) ⌝ }
+        ensures { λ r. ⌜ RanksFollow (arraysBefore limits costs doublings) h self r (before free) (before held) (after free) (after held) ⌝ }
     {
         let tone = h.tone;
         let bits = self.bits[tone] - 1;

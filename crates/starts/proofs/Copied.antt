@@ -18,14 +18,14 @@ use Rattle.starts.specs.Starts.{noBitsYet, StartsAt}
 
 module _ (costs doublings : List ℕ) (t : Table) where
   -- the power of tone j at its bits in a table
-  abbrev pub powerOf : (j : ℕ) → ℕ
-  powerOf j = powerIn (getD costs j 0) (getD doublings j 0) (t ! j)
+  abbrev pub startPower : (j : ℕ) → ℕ
+  startPower j = powerIn (getD costs j 0) (getD doublings j 0) (t ! j)
 
   -- the first i tones are copied
   pub record Copied (r : Running) (i : ℕ) : Type 0 where
     pub inside : i ≤ length t
     pub bits : Filled mostTones (_!_ t) (r .bits) i
-    pub power : r .power ≡ sum i powerOf
+    pub power : r .power ≡ sum i startPower
 
 module _ {costs doublings : List ℕ} {t : Table} where
   -- no tone is copied yet
@@ -35,11 +35,11 @@ module _ {costs doublings : List ℕ} {t : Table} where
 
   -- with one tone more the sum stays below 2^64
   pub power-room : PowersInRange (length t) costs doublings t → (i : ℕ) → i < length t → length t ≤ mostTones
-      → sum i (powerOf costs doublings t) + powerOf costs doublings t i ≤ mostPower
+      → sum i (startPower costs doublings t) + startPower costs doublings t i ≤ mostPower
   unfolding sum
-  power-room R i il few = omega (arith, sum-at-most (suc i) (2 ^ 39) (powerOf costs doublings t) (λ j jl. high j (omega arith)))
+  power-room R i il few = omega (arith, sum-at-most (suc i) (2 ^ 39) (startPower costs doublings t) (λ j jl. high j (omega arith)))
     where
-      high : (j : ℕ) → j < length t → powerOf costs doublings t j ≤ 2 ^ 39
+      high : (j : ℕ) → j < length t → startPower costs doublings t j ≤ 2 ^ 39
       high j jl =
           let s : ℕ = getD doublings j 0 * t ! j in
           let under = lt-of-lt-of-le (shl-lt 24 s (R .cost-high j jl)) (pow-mono {i = 24 + s} {j = 39} (omega (arith, R .shift-high j jl))) in
@@ -47,7 +47,7 @@ module _ {costs doublings : List ℕ} {t : Table} where
 
   module _ {r : Running} {i : ℕ} (C : Copied costs doublings t r i) where
     -- one tone more is copied
-    pub copied-more : (p : ℕ) → i < length t → i < mostTones → p ≡ powerOf costs doublings t i
+    pub copied-more : (p : ℕ) → i < length t → i < mostTones → p ≡ startPower costs doublings t i
         → Copied costs doublings t (record { bits = set (r .bits) i (t ! i); power = r .power + p }) (i + 1)
     unfolding sum
     copied-more p il small e = record { inside = omega arith; bits = filled-more (C .bits) (t ! i) small refl; power = rw add-one (omega (arith, C .power)) }

@@ -5,7 +5,8 @@ use mathlib.Core.Path.{_≡_, refl, ap, _∙_}
 use Prim.Native.Nat.{ℕ, zero, suc, _+_, _*_, _≤_, _<_}
 use native.Mathlib.Omega.{arith}
 use lib.ListN.{length, getD, drop}
-use lib.Seq.{sets, sets-eq}
+use lib.Seq.{sets}
+use Rattle.lists.proofs.Stores.{from-start}
 use Rattle.sizes.specs.Sizes.{bytesATone}
 use Rattle.bigendian.proofs.Numbers.{length-bytes}
 use Rattle.bigendian.proofs.Stores.{Growing, length-none, length-next}
@@ -46,5 +47,5 @@ plain-table-bytes {count} {costs = costs} {doublings} {bits} {T = T} {t} S =
 -- a table written at a buffer's start, and what stays behind it
 pub table-written : (T : Tones) (t : Table) (out : List ℕ) → bytesATone * T .count ≤ length out → sets out 0 (tableBytes T t) ≡ tableBytes T t ++ drop (bytesATone * T .count) out
 table-written T t out h =
-    let z : 0 + length (tableBytes T t) ≡ bytesATone * T .count = omega (arith, length-entries T t (T .count)) in
-    sets-eq (tableBytes T t) out 0 (omega arith) ∙ ap (λ (m : ℕ). tableBytes T t ++ drop m out) z
+    let n = length-entries T t (T .count) in
+    from-start (tableBytes T t) out (omega (arith, n)) ∙ ap (λ (m : ℕ). tableBytes T t ++ drop m out) n

@@ -1,14 +1,15 @@
 -- The three outcomes of tidying, each with its answer and its buffer.
 -- Assumes nothing.
 use mathlib.Core.Bool.{Bool, true, false, cond}
-use mathlib.Core.List.{List, [], _∷_, _++_}
+use mathlib.Core.List.{List, [], _∷_}
 use mathlib.Core.Path.{_≡_, refl, ap, _∙_}
-use Prim.Native.Nat.{ℕ, _+_, _≤_, _<_}
+use Prim.Native.Nat.{ℕ, _≤_, _<_}
 use native.Mathlib.Omega.{arith}
 use borrow.Author.Tests.{le-ltb, lt-ltb}
 use lib.Dec.{ltb}
-use lib.ListN.{length, drop}
-use lib.Seq.{sets, sets-eq}
+use lib.ListN.{length}
+use lib.Seq.{sets}
+use Rattle.lists.proofs.Stores.{from-start}
 use Rattle.line.specs.Line.{Line}
 use Rattle.command.specs.declared.Refusal.{Refusal}
 use Rattle.command.specs.declared.Refusal.the-variants.{DestinationTooSmall}
@@ -47,9 +48,4 @@ module _ {x : Meaning} {l : Line} (e : x ≡ accepted l) (out : List ℕ) {n : �
   pub written : n ≤ length out → Ended x out (sets out 0 (tidy l)) (Length n)
   written h =
       let t = le-ltb (length out) (length (tidy l)) (omega arith) in
-      ended x out (simp (e, t, f)) (simp (e, t) (from-start (tidy l) (omega arith)))
-    where
-      from-start : (vs : List ℕ) → length vs ≤ length out → sets out 0 vs ≡ vs ++ drop (length vs) out
-      from-start vs k =
-          let z : 0 + length vs ≡ length vs = omega arith in
-          sets-eq vs out 0 (omega arith) ∙ ap (λ (m : ℕ). vs ++ drop m out) z
+      ended x out (simp (e, t, f)) (simp (e, t) (from-start (tidy l) out (omega arith)))

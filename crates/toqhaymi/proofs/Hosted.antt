@@ -9,7 +9,7 @@ use Rattle.sizes.specs.Sizes.{answerRoom}
 use Rattle.command.specs.declared.Refusal.the-variants.{DestinationTooSmall}
 use Rattle.command.specs.Refusals.{Outcome}
 use Rattle.sheet.specs.Reading.{Meaning, accepted, refused, reading}
-use Rattle.answers.specs.declared.Answer.{Answer}
+use Rattle.answers.specs.declared.Reply.{Reply}
 use Rattle.answers.specs.Answers.{code, answered, withoutRoom, Says}
 use Rattle.answers.proofs.Stored.{Puts, Ends, ends, untouched}
 use Rattle.toqhaymi.specs.Host.{hosted, hostedBuffer}
@@ -39,7 +39,7 @@ module _ (s : List ℕ) (o : Outcome) (answer : List ℕ) {result : ℕ} (h : le
 
 -- ---- room for the answers: the call's own outcome o, which the answer a says as p
 
-module _ (s : List ℕ) {p o : Outcome} {a : Answer} (answer : List ℕ) {after : List ℕ} {result : ℕ} (h : answerRoom ≤ length answer) (n : p ≡ o) (S : Says a p)
+module _ (s : List ℕ) {p o : Outcome} {a : Reply} (answer : List ℕ) {after : List ℕ} {result : ℕ} (h : answerRoom ≤ length answer) (n : p ≡ o) (S : Says a p)
     (w : Puts a answer after result) where
   pub long-answers : Answers s o answer after result
   long-answers = rw (le-ltb (length answer) answerRoom h, ← n) (ends S answer w)
