@@ -1,4 +1,4 @@
--- A format with more tones, words or bytes covers one with fewer: each operand takes what it took.
+-- A format with more tones, words or bytes covers one with fewer, since each operand takes what it took; so does one with more commands.
 -- Assumes nothing.
 use mathlib.Core.Bool.{Bool, true, false, cond}
 use mathlib.Core.List.{List, [], _∷_, _++_}
@@ -105,10 +105,14 @@ wider {t} {t′} {w} {w′} tones words bytes = record {
     same : (r : Row) → Like r r
     same r = record { same-code = refl; covers = covers-same r }
 
+    all-same : (rs : List Row) → Paired Like rs rs
+    all-same [] = tt
+    all-same (r ∷ rs) = (same r, all-same rs)
+
     rows : (stage : ℕ) → Paired Like (rowsOf t′ w′ stage) (rowsOf t w stage)
     rows zero = (record { same-code = refl; covers = covers-wider _ _ _ _ (wider-within 2 1 tones, tt) }, tt)
-    rows (suc zero) = (same _, tt)
-    rows (suc (suc zero)) = (same _, tt)
+    rows (suc zero) = all-same (rowsOf t w 1)
+    rows (suc (suc zero)) = all-same (rowsOf t w 2)
     rows (suc (suc (suc n))) =
         let words-wider : Covers (silence w′) (silence w) = covers-wider _ _ _ _ (wider-within 1 0 (omega arith), (wider-same _, tt)) in
         (same _, (same _, (record { same-code = refl; covers = words-wider }, (same _, tt))))
@@ -119,3 +123,13 @@ within-same F = record { no-longer = omega arith; covered = λ stage code. same 
     same : (o : Option Row) → Covered o o
     same none = tt
     same (some r) = covers-same r
+
+-- more commands after those that a format has: the old ones are covered
+pub more-rows : (rs extra : List Row) (code : ℕ) → Covered (withCode rs code) (withCode (rs ++ extra) code)
+more-rows [] extra code = tt
+more-rows (r ∷ rs) extra code = by (eqb code (r .code)) (more-rows rs extra code)
+  where
+    by : (t : Bool) → Covered (withCode rs code) (withCode (rs ++ extra) code)
+        → Covered (cond t (some r) (withCode rs code)) (cond t (some r) (withCode (rs ++ extra) code))
+    by true c = covers-same r
+    by false c = c

@@ -9,7 +9,7 @@
 use mathlib.Core.Path.{_≡_, refl, sym, ap, _∙_}
 use mathlib.Core.Bool.{Bool, true, false, cond}
 use mathlib.Core.Logic.{_⊎_, inl, inr, ⊎-elim}
-use mathlib.Core.List.{List, [], _∷_}
+use mathlib.Core.List.{List, [], _∷_, _++_}
 use mathlib.Core.Option.{Option, none, some}
 use Prim.Native.Nat.{ℕ, zero, suc, _+_, _-_, _≤_, _<_}
 use native.Mathlib.Decide.{ℕ-discrete}
@@ -30,9 +30,9 @@ use Rattle.command.specs.declared.Header.{Header}
 use Rattle.command.specs.declared.Command.{Command}
 use Rattle.command.specs.declared.Command.the-variants.{Describe, Silence, Refused}
 use Rattle.command.specs.Places.{entryAt}
-use Rattle.command.specs.Rows.{within, Row, gap, budget, tone, pair, single, end, withCode, width, bytesOf, judged, rowAt}
+use Rattle.command.specs.Rows.{within, Row, tone, pair, single, end, withCode, width, bytesOf, judged, rowAt}
 use Rattle.command.specs.Format.{today, decoded, commandAt}
-use Rattle.command.specs.Codes.{sizeRow, silenceRow, toneRow, rowOf}
+use Rattle.command.specs.Codes.{silenceRow, toneRow, allRows, orEnd, rowOf}
 use Rattle.command.proofs.Walk.{Each, Found, found, number-one}
 
 -- ---- operands
@@ -113,16 +113,34 @@ described-at s (suc p) = sym (lt-ltb 0 (suc p) (omega arith))
 
 -- ---- the row that a command byte finds
 
--- what holds of each of the seven rows holds of the one found
-found-today : (P : Row → Type 0) → Each P (sizeRow ∷ gap ∷ budget ∷ pair ∷ single ∷ silenceRow ∷ end ∷ []) → (stage code : ℕ)
-    → Found P code (withCode (today .rows stage) code)
+-- what holds of each row of two lists joined holds of those of either
+each-left : (P : Row → Type 0) (rs qs : List Row) → Each P (rs ++ qs) → Each P rs
+each-left P [] qs each = tt
+each-left P (r ∷ rs) qs each = (each .0, each-left P rs qs (each .1))
+
+each-right : (P : Row → Type 0) (rs qs : List Row) → Each P (rs ++ qs) → Each P qs
+each-right P [] qs each = each
+each-right P (r ∷ rs) qs each = each-right P rs qs (each .1)
+
+-- the rows from the second stage on, and from the third
+abbrev fromGap : List Row
+fromGap = today .rows 1 ++ (today .rows 2 ++ today .rows 3)
+
+abbrev fromBudget : List Row
+fromBudget = today .rows 2 ++ today .rows 3
+
+-- what holds of each row holds of the one found
+found-today : (P : Row → Type 0) → Each P allRows → (stage code : ℕ) → Found P code (withCode (today .rows stage) code)
 found-today P each stage code = found P code (today .rows stage) (part stage)
   where
+    late : Each P fromBudget
+    late = each-right P (today .rows 1) fromBudget (each-right P (today .rows 0) fromGap each)
+
     part : (stage : ℕ) → Each P (today .rows stage)
-    part zero = (each .0, tt)
-    part (suc zero) = (each .1 .0, tt)
-    part (suc (suc zero)) = (each .1 .1 .0, tt)
-    part (suc (suc (suc n))) = each .1 .1 .1
+    part zero = each-left P (today .rows 0) fromGap each
+    part (suc zero) = each-left P (today .rows 1) fromBudget (each-right P (today .rows 0) fromGap each)
+    part (suc (suc zero)) = each-left P (today .rows 2) (today .rows 3) late
+    part (suc (suc (suc n))) = each-right P (today .rows 2) (today .rows 3) late
 
 -- after the first three commands the other four are allowed
 pub rows-late : (stage : ℕ) → 3 ≤ stage → today .rows stage ≡ pair ∷ single ∷ silenceRow ∷ end ∷ []
@@ -183,8 +201,12 @@ tone-row code low high = ⊎-elim (λ e. rw e) (λ e. rw e) (four-or-five code l
 
 -- a byte above those of the other commands is taken for the end
 pub end-row : (code : ℕ) → 7 ≤ code → rowOf code ≡ end
-end-row code l = rw (other 1 tt, other 2 tt, other 3 tt, other 4 tt, other 5 tt, other 6 tt)
+end-row code l = rw (other 1 tt, other 2 tt, other 3 tt, other 4 tt, other 5 tt, other 6 tt) (either (eqb code 7))
   where
+    either : (t : Bool) → orEnd (cond t (some end) none) ≡ end
+    either true = refl
+    either false = refl
+
     other : (k : ℕ) → T (ltb k 7) → eqb code k ≡ false
     other k h = ne-eqb code k (λ e. omega (arith, ltb→lt k 7 h))
 

@@ -1,12 +1,13 @@
 -- What is known of a command that is not refused, by what it does.
 -- Assumes nothing.
 use mathlib.Core.Bool.{Bool, true, false}
-use mathlib.Core.List.{List}
+use mathlib.Core.List.{List, [], _∷_}
 use mathlib.Core.Logic.{_⊎_, inl, inr}
 use mathlib.Core.Path.{_≡_, refl}
 use Prim.Native.Nat.{ℕ, zero, suc, _+_, _≤_, _<_}
 use native.Mathlib.Nat.{add-assoc}
 use native.Mathlib.Omega.{arith}
+use borrow.Author.Needs.{needs}
 use borrow.Author.Tests.{leb-false, ltb-false}
 use lib.Dec.{leb}
 use lib.ListN.{length, getD}
@@ -19,7 +20,7 @@ use Rattle.command.specs.declared.Header.{Header}
 use Rattle.command.specs.declared.Command.{Command}
 use Rattle.command.specs.declared.Command.the-variants.{End, Refused, Head, Describe, Silence}
 use Rattle.command.specs.declared.Decoded.{Decoded}
-use Rattle.command.specs.Rows.{tone}
+use Rattle.command.specs.Rows.{Row, tone, width}
 use Rattle.command.specs.Format.{today, isTooLong, addressed, commandAt}
 use Rattle.command.specs.Codes.{silenceRow}
 use Rattle.command.proofs.Walk.{Each, number-one, passes, in-within, Does, by-rows}
@@ -69,6 +70,17 @@ Said h known s at stage next (Silence word map) = Silences h s at stage next wor
 abbrev pub SaidOf : Header → (known : Entry) → List ℕ → (at stage : ℕ) → Decoded → Type 0
 SaidOf h known s at stage d = Said h known s at stage (d .next) (d .command)
 
+-- a row that makes a new header
+abbrev IsHead : Command → Type 0
+IsHead (Head h) = Unit {0}
+IsHead End = ⊥
+IsHead (Refused q) = ⊥
+IsHead (Describe i) = ⊥
+IsHead (Silence word map) = ⊥
+
+abbrev Heading : Row → Type 0
+Heading r = (h : Header) (v : List ℕ) → IsHead (r .does h v)
+
 module _ (h : Header) (known : Entry) (s : List ℕ) (at : ℕ) (short : length s ≤ longestSheet) where
   there : (w : ℕ) → at + 1 + w ≤ length s → There (length s) at (at + 1 + w)
   there w whole = record { onward = omega arith; inside = whole; short = short }
@@ -98,10 +110,23 @@ module _ (h : Header) (known : Entry) (s : List ℕ) (at : ℕ) (short : length 
         of-line = passes (namesBeyond (h .size) (number s (at + 1) 1) (number s (at + 1 + 1) 4)) _ _ (p .1 .0) .0;
       }
 
+  -- such rows stand among the first three commands
+  heads-said : (stage : ℕ) → stage < 3 → (rs : List Row) → Each Heading rs → Each (Does (SaidOf h known s at stage) h known s at) rs
+  heads-said stage early [] all = tt
+  heads-said stage early (r ∷ rs) all =
+      (λ own whole p. by (r .does h _) (all .0 h _) (there (width (r .operands)) whole), heads-said stage early rs (all .1))
+    where
+      by : {next : ℕ} (c : Command) → IsHead c → There (length s) at next → Said h known s at stage next c
+      by (Head h′) i t = record { there = t; early = early }
+      by End i t = absurd i
+      by (Refused q) i t = absurd i
+      by (Describe i) k t = absurd k
+      by (Silence word map) i t = absurd i
+
   all-said : (stage : ℕ) → Each (Does (SaidOf h known s at stage) h known s at) (today .rows stage)
-  all-said zero = (λ own whole p. record { there = there 2 whole; early = omega arith }, tt)
-  all-said (suc zero) = (λ own whole p. record { there = there 2 whole; early = omega arith }, tt)
-  all-said (suc (suc zero)) = (λ own whole p. record { there = there 8 whole; early = omega arith }, tt)
+  all-said zero = heads-said 0 (omega arith) (today .rows 0) (search needs)
+  all-said (suc zero) = heads-said 1 (omega arith) (today .rows 1) (search needs)
+  all-said (suc (suc zero)) = heads-said 2 (omega arith) (today .rows 2) (search needs)
   all-said (suc (suc (suc n))) =
       let late : 3 ≤ suc (suc (suc n)) = omega arith in
       (tone-said _ 4 false late (inl refl), (tone-said _ 5 true late (inr refl), (silence-said _ late, (λ own whole p. record { there = there 0 whole; late = late }, tt))))

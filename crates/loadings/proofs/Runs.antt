@@ -76,8 +76,12 @@ module _ {count : ℕ} {A : Arrays} {T : Tones} (L : Loadable count A T) where
     pub none-fits : KeepsBudget T budget (noBits T)
     none-fits = omega (arith, no-bits-stand (L .describes) (L .rising) (L .in-range .count-high) .same-power)
 
-    pub most-run : run (addStep T budget) mostBitsOfAll (noBits T) ≡ mostBits T budget
+    most-run : run (addStep T budget) mostBitsOfAll (noBits T) ≡ mostBits T budget
     most-run = most-bits-enough T (L .rising) budget none-fits mostBitsOfAll limits-high
+
+    -- what stands for the table of that run stands for the one of most bits
+    pub most-stands : {r : Running} → Stands count A r T (run (addStep T budget) mostBitsOfAll (noBits T) .table) → Stands count A r T (mostBits T budget .table)
+    most-stands S = rw most-run at S
 
     pub target-run : (target : ℕ) → setBits T budget target ≡ carrying T target (run (addStep T budget) target (noBits T) .table)
     target-run = set-bits-adds T (L .rising) budget none-fits

@@ -10,12 +10,13 @@ use lib.Dec.{eqb}
 use lib.ListN.{length}
 use Rattle.steps.specs.Tones.{Tones, Table, totalBits, totalPower}
 use Rattle.steps.specs.Runs.{Answer, moved, finished, refitStep, Ran, run, refitRun}
+use Rattle.line.specs.Arrays.{Arrays}
 use Rattle.command.specs.declared.Refusal.the-variants.{StartLengthWrong, StartAboveLimit}
 use Rattle.command.specs.Refusals.{Outcome, success, refusal}
 use Rattle.starts.specs.Starts.{firstAbove}
 use Rattle.loadings.specs.declared.Refitted.{Refitted}
 use Rattle.loadings.specs.declared.Refitted.the-variants.{Totals, Refused}
-use Rattle.loadings.specs.Loads.{Loading, loaded, turned-down, ifRoom, afterLoading}
+use Rattle.loadings.specs.Loads.{Loading, loaded, turned-down, ifRoom, afterLoading, ForTones}
 
 -- refusal 9: 'A starting table is not N bytes long'; refusal 10: 'A starting table has more bits than a tone's limit'
 abbrev pub onAbove : Option ℕ → Loading → Loading
@@ -64,3 +65,7 @@ pub record RefitsAs (r : Refitted) (old new : List ℕ) (on : (room : ℕ) → L
   pub answer : r ≡ refitAnswer (on (length old))
   pub numbers : refitNumbers r ≡ refitOutcome (on (length old))
   pub bytes : new ≡ afterLoading (on (length old)) old
+
+-- a re-fit by at most so many moves, of all tones that the arrays describe
+abbrev pub RefitsTones : (count most budget : ℕ) → Arrays → (start : List ℕ) → Refitted → (old new : List ℕ) → Type 0
+RefitsTones count most budget A start r old new = ForTones count A (λ T. RefitsAs r old new (refitUpTo most T budget start))

@@ -3,7 +3,7 @@
 ghost use Rattle.lists.specs.Lent.{before, after};
 ghost use Rattle.line.specs.Arrays.{arrays, arraysBefore};
 ghost use Rattle.loadings.specs.Loads.{mostOn, targetOn, SomeTones, ForTones, LoadsAs};
-ghost use Rattle.loadings.specs.Refits.{refitUpTo, RefitsAs};
+ghost use Rattle.loadings.specs.Refits.{RefitsTones};
 use command::Refusal;
 use moves::Rule;
 use running::Progress;
@@ -109,7 +109,7 @@ pub fn refit(
     table: &mut [u8],
 ) -> Refitted
     requires { ⌜ SomeTones size (arrays (now limits) (now costs) (now doublings)) ⌝ }
-    ensures { λ r. ⌜ ForTones size (arraysBefore limits costs doublings) (λ T. RefitsAs r (before table) (after table) (refitUpTo most T budget (before start))) ⌝ }
+    ensures { λ r. ⌜ RefitsTones size most budget (arraysBefore limits costs doublings) (before start) r (before table) (after table) ⌝ }
 {
     let count = size as usize;
     if table.len() < TONE_BYTES * count {

@@ -1,9 +1,8 @@
 -- `loadings::most` meets its contract. Assumes nothing.
-use mathlib.Core.Path.{ap, sym, _∙_}
 use Rattle.steps.specs.Tones.{noBits}
 use Rattle.line.specs.Arrays.{Arrays, arrays}
-use Rattle.loadings.specs.Loads.{loaded, mostOn}
-use Rattle.loadings.proofs.Runs.{runnable, none-stands, writable, most-run}
+use Rattle.loadings.specs.Loads.{mostOn}
+use Rattle.loadings.proofs.Runs.{runnable, none-stands, writable, most-stands}
 use Rattle.loadings.proofs.Outcomes.{load-refused, load-done, most-short, most-fits}
 use borrow.Author.Needs.{needs}
 use Rattle.loadings.proofs.most.Statement.{statement}
@@ -31,12 +30,12 @@ returns-2 c = λ T L.
     let A : Arrays = arrays (k .args .limits .now) (k .args .costs .now) (k .args .doublings .now) in
     load-done {A = A}
     (record {
-      stands = e .run .ensures T (noBits T) (none-stands L (e .before .no-bits .ensures)) .stands;
+      stands = most-stands L (k .args .budget) (e .run .ensures T (noBits T) (none-stands L (e .before .no-bits .ensures)) .stands);
       added-up = c .total-bits .ensures;
       room = h;
       written = c .before .before .before .before .put-table .ensures (k .args .limits .now);
     })
-    (mostOn T (k .args .budget)) (most-fits L (k .args .budget) h ∙ ap (loaded T) (sym (most-run L (k .args .budget))))
+    (mostOn T (k .args .budget)) (most-fits L (k .args .budget) h)
 
 pub most-spec : {M : Type 1} → statement M
 most-spec =

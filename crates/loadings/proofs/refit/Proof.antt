@@ -1,5 +1,6 @@
 -- `loadings::refit` meets its contract. Assumes nothing.
 use native.Mathlib.Omega.{arith}
+use Rattle.steps.specs.Runs.{refitStep, run}
 use Rattle.line.specs.Arrays.{Arrays, arrays}
 use Rattle.loadings.specs.Refits.{refitUpTo}
 use Rattle.loadings.proofs.Runs.{runnable, writable}
@@ -13,7 +14,7 @@ returns : tie.Need-returns
 returns c = λ T L. refit-refused (refitUpTo _ T _ _) _ (refit-short L _ _ _ (c .if1 .taken))
 
 returns-2 : tie.Need-returns-2
-returns-2 c = λ T L. refit-refused (refitUpTo _ T _ _) _ (refit-length L _ _ _ (c .before .if1 .left) (c .if2 .taken))
+returns-2 c = λ T L. refit-refused (refitUpTo _ T _ _) _ (refit-length L _ _ _ (c .before .if1 .left) (λ m. omega (arith, c .if2 .taken)))
 
 cast-t22 : tie.Need-cast-t22
 cast-t22 c =
@@ -65,7 +66,7 @@ returns-4 c = λ T L.
     let A : Arrays = arrays (k .args .limits .now) (k .args .costs .now) (k .args .doublings .now) in
     let S = start-stands {A = A} L _ m _ (f .first-above .ensures) (e .before .before .enum-told .given .1) (e .before .from-start .ensures (k .args .limits .now)) in
     let E = e .run .ensures T (k .args .start .now) S in
-    refit-done {A = A}
+    refit-done {A = A} {ran = run (refitStep T (k .args .budget)) (k .args .most) (k .args .start .now)}
     (record {
       stands = E .stands;
       added-up = c .total-bits .ensures;

@@ -30,7 +30,7 @@ returns-2 c = λ T L.
     let k = e .before .before .before .before in
     let E = e .run .ensures T (noBits T) (none-stands L (e .before .no-bits .ensures)) in
     load-refused (targetOn T (k .args .budget) (k .args .target)) _
-    (target-missed L _ _ (e .before .before .if1 .left) refl (missed-by L _ _ (E .progressed) (c .enum-told .given .1)))
+    (target-missed L _ _ (e .before .before .if1 .left) refl (missed-by L (k .args .budget) (k .args .target) (E .progressed) (c .enum-told .given .1)))
 
 returns-3 : tie.Need-returns-3
 returns-3 c = λ T L.
@@ -39,7 +39,7 @@ returns-3 c = λ T L.
     let h = e .before .before .if1 .left in
     let A : Arrays = arrays (k .args .limits .now) (k .args .costs .now) (k .args .doublings .now) in
     let E = e .run .ensures T (noBits T) (none-stands L (e .before .no-bits .ensures)) in
-    let all = carried-by L _ _ (E .progressed) (c .before .before .before .before .before .before .before .enum-told2 .given .1) in
+    let all = carried-by L (k .args .budget) (k .args .target) (E .progressed) (c .before .before .before .before .before .before .before .enum-told2 .given .1) in
     load-done {A = A}
     (record {
       stands = E .stands;
