@@ -17,7 +17,7 @@ use loadings::Refitted;
 use sheet::Checked;
 use tidy::Tidied;
 
-// What a host call answers: the number that it returns, and how many of three numbers it writes.
+// What a host call answers: the number that it returns, and three numbers, of which it writes the first `count`.
 pub struct Reply {
     pub returned: u64,
     pub count: usize,
@@ -57,6 +57,7 @@ pub fn without_room(sheet: &[u8]) -> u64
     }
 }
 
+// The reply of a check.
 pub fn of_check(checked: Checked) -> Reply
     ensures { λ r. ⌜ Says r (checkNumbers checked) ⌝ }
 {
@@ -72,6 +73,7 @@ pub fn of_check(checked: Checked) -> Reply
     }
 }
 
+// The reply of a loading.
 pub fn of_load(loaded: Loaded) -> Reply
     ensures { λ r. ⌜ Says r (loadNumbers loaded) ⌝ }
 {
@@ -87,6 +89,7 @@ pub fn of_load(loaded: Loaded) -> Reply
     }
 }
 
+// The reply of a re-fit, or of one step of it.
 pub fn of_refit(refitted: Refitted) -> Reply
     ensures { λ r. ⌜ Says r (refitNumbers refitted) ⌝ }
 {
@@ -102,6 +105,7 @@ pub fn of_refit(refitted: Refitted) -> Reply
     }
 }
 
+// The reply of a tidying.
 pub fn of_tidy(tidied: Tidied) -> Reply
     ensures { λ r. ⌜ Says r (tidyNumbers tidied) ⌝ }
 {
