@@ -1,6 +1,16 @@
 /*
- * toqhaymi.h: the bit loader for a program in C or C++.
- * Link with libtoqhaymi.a. What a call does depends on its arguments alone.
+ * toqhaymi.h: the bit loader for a program in C or C++ on x86-64.
+ * What a call does depends on its arguments alone. docs/FORMAT.md has the whole
+ * format and every rule.
+ *
+ * Build. Link with libtoqhaymi.a, which needs no other library. At the root of
+ * the repository, and once it is installed (./install PREFIX, with
+ * PREFIX/lib/pkgconfig in PKG_CONFIG_PATH):
+ *   $ cc -I include examples/load.c target/staticlib/libtoqhaymi.a -o target/load
+ *   $ cc examples/load.c $(pkg-config --cflags --libs toqhaymi) -o target/load
+ *
+ * Stack. A call takes no memory but its caller's buffers and its own stack: at
+ * most TOQHAYMI_STACK_BYTES, measured (tests/run), not proved.
  *
  * Buffers. A buffer is a pointer and then its length in bytes. The buffers of
  * one call must not overlap. With length 0 the pointer may be any that is not
@@ -15,6 +25,11 @@
  *         than TOQHAYMI_LARGEST_TIDY.
  * Answer. At least 24 bytes. Each answer of a call takes 8 of them, high byte
  *         first, from the start of the buffer, in the order given with the call.
+ *
+ * Limit.  A tone's limit is the most bits that it takes: the largest number of
+ *         bits that is at most its cap and whose power is at most its mask. It
+ *         is 0 for a tone that is silenced or not described. No loading goes
+ *         above it, and no starting table may.
  *
  * Returned. Refusal number x 2^32 + place. 0 says that the call was accepted.
  * A refused call changes no byte of any buffer. An accepted one changes only
@@ -32,6 +47,15 @@
 #ifdef __cplusplus
 extern "C" {
 #endif
+
+/* The version of the calls and of this header. */
+#define TOQHAYMI_VERSION "1.0.0"
+#define TOQHAYMI_VERSION_MAJOR 1
+#define TOQHAYMI_VERSION_MINOR 0
+#define TOQHAYMI_VERSION_PATCH 0
+
+/* The most stack that a call takes, in bytes. */
+#define TOQHAYMI_STACK_BYTES 16384
 
 /* Sizes in bytes, and the most tones that a line has. */
 #define TOQHAYMI_LARGEST_SHEET 4096

@@ -1,11 +1,17 @@
 // The bench program: reads a sheet from standard input, loads it for most bits and prints the table. Document 01, 'Sample line'.
 ghost use Prim.Native.Nat.{_*_, _≤_};
 ghost use lib.ListN.{length};
+ghost use Rattle.sizes.specs.Sizes.{mostTones, bytesATone};
 use command::Refusal;
 use command::refusal_number;
 use command::refusal_place;
-use lineloads::Loaded;
+use loadings::Loaded;
 use sheet::Checked;
+use sizes::TONE_BYTES;
+use sizes::TONES;
+
+// The table of the most tones, in bytes.
+const TABLE_BYTES: usize = TONE_BYTES * TONES;
 
 fn print(text: &[u8]) {
     io::write_all(1, text);
@@ -22,14 +28,14 @@ fn print_two(first: u64, second: u64) {
 
 // A line for each tone: its number, its bits and its power.
 fn print_table(table: &[u8], size: usize)
-    requires { ⌜ 9 * size ≤ length (now table) ⌝ }
+    requires { ⌜ bytesATone * size ≤ length (now table) ⌝ }
 {
     let mut tone: usize = 0;
     while tone < size {
         io::print_decimal(1, tone as u64);
         print_two(
-            bigendian::number_at(table, 9 * tone, 1),
-            bigendian::number_at(table, 9 * tone + 1, 8),
+            bigendian::number_at(table, TONE_BYTES * tone, 1),
+            bigendian::number_at(table, TONE_BYTES * tone + 1, 8),
         );
         tone += 1;
     }
@@ -42,9 +48,9 @@ fn print_refusal(why: Refusal) {
 
 // Loads an accepted sheet of so many tones.
 fn show_loading(sheet: &[u8], size: usize)
-    requires { ⌜ size ≤ 256 ⌝ }
+    requires { ⌜ size ≤ mostTones ⌝ }
 {
-    let mut table = [0u8; 2304];
+    let mut table = [0u8; TABLE_BYTES];
     let loaded = loader::load_most(sheet, &mut table);
     match loaded {
         Loaded::Refused(why) => print_refusal(why),

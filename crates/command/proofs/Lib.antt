@@ -1,2 +1,4 @@
+pub mod Walk
 pub mod Rows
 pub mod Said
+pub mod Formats

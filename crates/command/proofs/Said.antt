@@ -1,121 +1,139 @@
--- What a command comes to, operand by operand, and what is known of operands that pass.
+-- What is known of a command that is not refused, by what it does.
 -- Assumes nothing.
-use mathlib.Core.Bool.{Bool, true, false, cond}
-use mathlib.Core.List.{List, [], _∷_, _++_}
-use mathlib.Core.Option.{Option, none, some}
+use mathlib.Core.Bool.{Bool, true, false}
+use mathlib.Core.List.{List, [], _∷_}
+use mathlib.Core.Logic.{_⊎_, inl, inr}
 use mathlib.Core.Path.{_≡_, refl}
 use Prim.Native.Nat.{ℕ, zero, suc, _+_, _≤_, _<_}
+use native.Mathlib.Nat.{add-assoc}
 use native.Mathlib.Omega.{arith}
-use borrow.Author.Tests.{ltb-false}
-use lib.Dec.{ltb, leb, eqb}
+use borrow.Author.Needs.{needs}
+use borrow.Author.Tests.{leb-false, ltb-false}
+use lib.Dec.{leb}
 use lib.ListN.{length, getD}
+use Rattle.sizes.specs.Sizes.{mostWords, longestSheet}
+use Rattle.lists.proofs.Tests.{by-test}
 use Rattle.bigendian.specs.Number.{number}
-use Rattle.command.specs.declared.Refusal.{Refusal}
+use Rattle.silence.specs.Map.{namesBeyond}
+use Rattle.line.specs.Line.{Entry, isDescribed}
+use Rattle.command.specs.declared.Header.{Header}
 use Rattle.command.specs.declared.Command.{Command}
-use Rattle.command.specs.declared.Command.the-variants as command
+use Rattle.command.specs.declared.Command.the-variants.{End, Refused, Head, Describe, Silence}
 use Rattle.command.specs.declared.Decoded.{Decoded}
-use Rattle.command.specs.Rows.{Seen, Operand, Row, silence, width, allowed, withCode, judged, operandsFrom, rowAt, decodedRow, decoded, commandAt}
-
--- what holds on both sides of a test holds of what it picks
-pub by-test : {A : Type 0} (P : A → Type 0) (t : Bool) {a b : A} → (t ≡ true → P a) → (t ≡ false → P b) → P (cond t a b)
-by-test P true f g = f refl
-by-test P false f g = g refl
-
--- the operands from a place on are met by no refusal
-abbrev pub Passed : Seen → List ℕ → (at : ℕ) → List Operand → Type 0
-Passed seen s at [] = Unit {0}
-Passed seen s at (o ∷ os) =
-    (o .judge seen (number s at (o .width)) at ≡ none)
-    × Passed (record { size = seen .size; described = seen .described; before = seen .before ++ (number s at (o .width) ∷ []) }) s (at + o .width) os
-
--- the values of the operands, those before a place and those from there on
-abbrev pub values : List ℕ → List ℕ → (at : ℕ) → List Operand → List ℕ
-values before s at [] = before
-values before s at (o ∷ os) = values (before ++ (number s at (o .width) ∷ [])) s (at + o .width) os
-
--- what holds of a refusal, and of what a command says of operands that pass, holds of what the operands come to
-pub by-operands : (P : Command → Type 0) → ((r : Refusal) → P (command.Refused r)) → (seen : Seen) (s : List ℕ) (at : ℕ) (os : List Operand) (says : List ℕ → Command)
-    → (Passed seen s at os → P (says (values (seen .before) s at os))) → P (operandsFrom seen s at os says)
-by-operands P turned seen s at [] says h = h tt
-by-operands P turned seen s at (o ∷ os) says h =
-    by-judge (o .judge seen (number s at (o .width)) at) (λ e. by-operands P turned _ s (at + o .width) os says (λ p. h (e, p)))
-  where
-    by-judge : (q : Option Refusal) {c : Command} → (q ≡ none → P c) → P (judged q c)
-    by-judge (some r) k = turned r
-    by-judge none k = k refl
-
--- a test that would refuse fails
-pub passes : (t : Bool) (r : Refusal) (o : Option Refusal) → cond t (some r) o ≡ none → (t ≡ false) × (o ≡ none)
-passes true r o e =
-    let z : _≡_ {A = ℕ} 0 1 = cc in
-    absurd (omega arith)
-passes false r o e = (refl, e)
-
--- an operand that passes keeps to its range
-pub in-within : (v low high : ℕ) (r q : Refusal) → cond (ltb v low) (some r) (cond (ltb high v) (some q) none) ≡ none → (low ≤ v) × (v ≤ high)
-in-within v low high r q e =
-    let f = passes (ltb v low) r _ e in
-    (ltb-false v low (f .0), ltb-false high v (passes (ltb high v) q none (f .1) .0))
-
--- ---- what is known of a command that is not refused
+use Rattle.command.specs.Rows.{Row, tone, width}
+use Rattle.command.specs.Format.{today, isTooLong, addressed, commandAt}
+use Rattle.command.specs.Codes.{silenceRow}
+use Rattle.command.proofs.Walk.{Each, number-one, passes, in-within, Does, by-rows}
 
 -- its bytes are there, in a sheet that is not too long
 pub record There (length at next : ℕ) : Type 0 where
   pub onward : at < next
   pub inside : next ≤ length
-  pub short : length ≤ 4096
+  pub short : length ≤ longestSheet
 
--- and a silence's word is one of the eight
-abbrev pub Said : (length at next : ℕ) → Command → Type 0
-Said n at next (command.Refused r) = Unit {0}
-Said n at next (command.Silence word map) = There n at next × (word < 8)
-Said n at next (command.Size v) = There n at next
-Said n at next (command.Gap v) = There n at next
-Said n at next (command.Budget v) = There n at next
-Said n at next (command.Describe i t) = There n at next
-Said n at next command.End = There n at next
+-- a new header is one of the first three commands'
+pub record Heads (s : List ℕ) (at stage next : ℕ) : Type 0 where
+  pub there : There (length s) at next
+  pub early : stage < 3
 
-module _ (n : ℕ) (described : ℕ → Bool) (s : List ℕ) (at : ℕ) where
-  -- the same of what is decoded at a place
-  abbrev SaidOf : Decoded → Type 0
-  SaidOf d = Said (length s) at (d .next) (d .command)
+-- a tone is the one that the command addresses, of the line and not described before; its command is whole, and not one of the first three
+pub record DescribesTone (h : Header) (known : Entry) (s : List ℕ) (at stage next i : ℕ) : Type 0 where
+  pub there : There (length s) at next
+  pub late : 3 ≤ stage
+  pub code : (getD s at 0 ≡ 4) ⊎ (getD s at 0 ≡ 5)
+  pub whole : at + 15 ≤ length s
+  pub tone : i ≡ addressed s at
+  pub of-line : i < h .size
+  pub new : isDescribed known ≡ false
 
-  -- a row says such a command, if its bytes are there and its operands pass
-  abbrev Sayable : Row → Type 0
-  Sayable r =
-      let next = at + 1 + width (r .operands) in
-      There (length s) at next → Passed (record { size = n; described = described; before = [] }) s (at + 1) (r .operands)
-      → Said (length s) at next (r .says (values [] s (at + 1) (r .operands)))
+-- a word is one of the eight, and its map names tones of the line
+pub record Silences (h : Header) (s : List ℕ) (at stage next word map : ℕ) : Type 0 where
+  pub there : There (length s) at next
+  pub late : 3 ≤ stage
+  pub word-is : word ≡ getD s (at + 1) 0
+  pub word-high : word < mostWords
+  pub map-is : map ≡ number s (at + 2) 4
+  pub of-line : namesBeyond (h .size) word map ≡ false
 
-  abbrev Each : List Row → Type 0
-  Each [] = Unit {0}
-  Each (r ∷ rs) = Sayable r × Each rs
+pub record Ends (s : List ℕ) (at stage next : ℕ) : Type 0 where
+  pub there : There (length s) at next
+  pub late : 3 ≤ stage
 
-  all-rows : (stage : ℕ) → Each (allowed stage)
-  all-rows zero = (λ there p. there, tt)
-  all-rows (suc zero) = (λ there p. there, tt)
-  all-rows (suc (suc zero)) = (λ there p. there, tt)
-  all-rows (suc (suc (suc k))) = (λ there p. there, (λ there p. there, (λ there p. (there, word p), (λ there p. there, tt))))
+abbrev pub Said : Header → (known : Entry) → List ℕ → (at stage next : ℕ) → Command → Type 0
+Said h known s at stage next (Refused q) = Unit {0}
+Said h known s at stage next End = Ends s at stage next
+Said h known s at stage next (Head h′) = Heads s at stage next
+Said h known s at stage next (Describe i) = DescribesTone h known s at stage next i
+Said h known s at stage next (Silence word map) = Silences h s at stage next word map
+
+-- the same of what is decoded
+abbrev pub SaidOf : Header → (known : Entry) → List ℕ → (at stage : ℕ) → Decoded → Type 0
+SaidOf h known s at stage d = Said h known s at stage (d .next) (d .command)
+
+-- a row that makes a new header
+abbrev IsHead : Command → Type 0
+IsHead (Head h) = Unit {0}
+IsHead End = ⊥
+IsHead (Refused q) = ⊥
+IsHead (Describe i) = ⊥
+IsHead (Silence word map) = ⊥
+
+abbrev Heading : Row → Type 0
+Heading r = (h : Header) (v : List ℕ) → IsHead (r .does h v)
+
+module _ (h : Header) (known : Entry) (s : List ℕ) (at : ℕ) (short : length s ≤ longestSheet) where
+  there : (w : ℕ) → at + 1 + w ≤ length s → There (length s) at (at + 1 + w)
+  there w whole = record { onward = omega arith; inside = whole; short = short }
+
+  tone-said : (stage code : ℕ) (isSingle : Bool) → 3 ≤ stage → (code ≡ 4) ⊎ (code ≡ 5) → Does (SaidOf h known s at stage) h known s at (tone code isSingle)
+  tone-said stage code isSingle late which own whole p =
+      let v = passes (leb (h .size) (number s (at + 1) 1)) _ _ (p .0) in
+      record {
+        there = there 14 whole;
+        late = late;
+        code = rw own which;
+        whole = omega arith;
+        tone = number-one s (at + 1);
+        of-line = leb-false _ _ (v .0);
+        new = passes (isDescribed known) _ _ (v .1) .0;
+      }
+
+  silence-said : (stage : ℕ) → 3 ≤ stage → Does (SaidOf h known s at stage) h known s at silenceRow
+  silence-said stage late own whole p =
+      let v = in-within (number s (at + 1) 1) 0 7 _ _ (p .0) in
+      record {
+        there = there 5 whole;
+        late = late;
+        word-is = number-one s (at + 1);
+        word-high = omega arith;
+        map-is = rw add-assoc;
+        of-line = passes (namesBeyond (h .size) (number s (at + 1) 1) (number s (at + 1 + 1) 4)) _ _ (p .1 .0) .0;
+      }
+
+  -- such rows stand among the first three commands
+  heads-said : (stage : ℕ) → stage < 3 → (rs : List Row) → Each Heading rs → Each (Does (SaidOf h known s at stage) h known s at) rs
+  heads-said stage early [] all = tt
+  heads-said stage early (r ∷ rs) all =
+      (λ own whole p. by (r .does h _) (all .0 h _) (there (width (r .operands)) whole), heads-said stage early rs (all .1))
     where
-      word : Passed (record { size = n; described = described; before = [] }) s (at + 1) (silence .operands) → number s (at + 1) 1 < 8
-      word p = let v = in-within (number s (at + 1) 1) 0 7 _ _ (p .0) in omega arith
+      by : {next : ℕ} (c : Command) → IsHead c → There (length s) at next → Said h known s at stage next c
+      by (Head h′) i t = record { there = t; early = early }
+      by End i t = absurd i
+      by (Refused q) i t = absurd i
+      by (Describe i) k t = absurd k
+      by (Silence word map) i t = absurd i
 
-  module _ (short : length s ≤ 4096) where
-    by-row : (r : Row) → Sayable r → SaidOf (decodedRow n described s at (some r))
-    unfolding rowAt
-    by-row r h =
-        let next = at + 1 + width (r .operands) in
-        by-test SaidOf (ltb (length s) next) (λ e. tt)
-        (λ e. by-operands (Said (length s) at next) (λ q. tt) (record { size = n; described = described; before = [] }) s (at + 1) (r .operands) (r .says)
-        (h (record { onward = omega arith; inside = ltb-false _ _ e; short = short })))
+  all-said : (stage : ℕ) → Each (Does (SaidOf h known s at stage) h known s at) (today .rows stage)
+  all-said zero = heads-said 0 (omega arith) (today .rows 0) (search needs)
+  all-said (suc zero) = heads-said 1 (omega arith) (today .rows 1) (search needs)
+  all-said (suc (suc zero)) = heads-said 2 (omega arith) (today .rows 2) (search needs)
+  all-said (suc (suc (suc n))) =
+      let late : 3 ≤ suc (suc (suc n)) = omega arith in
+      (tone-said _ 4 false late (inl refl), (tone-said _ 5 true late (inr refl), (silence-said _ late, (λ own whole p. record { there = there 0 whole; late = late }, tt))))
 
-    by-rows : (rows : List Row) (code : ℕ) → Each rows → SaidOf (decodedRow n described s at (withCode rows code))
-    by-rows [] code h = tt
-    by-rows (r ∷ rs) code h =
-        by-test (λ (o : Option Row). SaidOf (decodedRow n described s at o)) (eqb code (r .code)) (λ e. by-row r (h .0)) (λ e. by-rows rs code (h .1))
-
-  pub command-said : (stage : ℕ) → SaidOf (commandAt n described s at stage)
-  unfolding commandAt decoded
-  command-said stage =
-      by-test SaidOf (ltb 4096 (length s)) (λ e. tt)
-      (λ short. by-test SaidOf (leb (length s) at) (λ e. tt) (λ e. by-rows (ltb-false _ _ short) (allowed stage) (getD s at 0) (all-rows stage)))
+-- What is known of the command at a place.
+pub command-said : (h : Header) (known : Entry) (s : List ℕ) (at stage : ℕ) → SaidOf h known s at stage (commandAt today h known s at stage)
+unfolding commandAt
+command-said h known s at stage =
+    by-test (SaidOf h known s at stage) (isTooLong today s) (λ e. tt)
+    (λ e. by-rows today h known s at stage (SaidOf h known s at stage) (λ q next. tt) (all-said h known s at (ltb-false _ _ e) stage))

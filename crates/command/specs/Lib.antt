@@ -1,2 +1,5 @@
 pub mod Refusals
+pub mod Places
 pub mod Rows
+pub mod Format
+pub mod Codes

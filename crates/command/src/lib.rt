@@ -1,15 +1,28 @@
 // The commands of a line sheet, decoded one by one, and the refusals: document 01, 'The line sheet' and 'Why a sheet is turned down'.
 ghost use mathlib.Core.Path.{_≡_};
-ghost use mathlib.Core.Bool.{Bool};
-ghost use Prim.Native.Nat.{ℕ, _+_, _≤_, _<_};
-ghost use lib.ListN.{length};
+ghost use Prim.Native.Nat.{_+_, _≤_, _<_};
+ghost use lib.ListN.{length, getD};
+ghost use Rattle.sizes.specs.Sizes.{mostTones, longestSheet};
+ghost use Rattle.lists.specs.Lent.{before};
+ghost use Rattle.line.specs.Tone.{mostCap, kindOf};
+ghost use Rattle.line.specs.Line.{Entry};
 ghost use Rattle.command.specs.declared.Refusal.the-variants.{OperandOutOfRange};
 ghost use Rattle.command.specs.declared.Command.the-variants.{Refused};
 ghost use Rattle.command.specs.Refusals.{refusalNumber, refusalPlace};
-ghost use Rattle.command.specs.Rows.{rowAt, rowOf, toneRow, mostCap, kindOf, silence, width, bytesOf, allowed, withCode, commandAt};
+ghost use Rattle.command.specs.Places.{toneAt, entryAt};
+ghost use Rattle.command.specs.Rows.{rowAt, width, bytesOf, withCode};
+ghost use Rattle.command.specs.Format.{today, addressed, commandAt};
+ghost use Rattle.command.specs.Codes.{rowOf, toneRow, silenceRow};
+use line::GAP_UNIT;
 use line::Kind;
 use line::Numbers;
 use line::Tone;
+use sizes::MOST_POWER;
+use sizes::PAIR_CAP;
+use sizes::SHEET_BYTES;
+use sizes::SINGLE_CAP;
+use sizes::TONES;
+use sizes::WORDS;
 
 // Why a sheet, or a call, is turned down: document 01's list, in its order, each case with its place where that is not 0.
 pub enum Refusal {
@@ -64,15 +77,21 @@ pub fn refusal_place(refusal: Refusal) -> u32
     }
 }
 
-// What a command says, or why it is refused.
+// What the first three commands give: N, the gap and the budget; 0 for what is not given yet.
+pub struct Header {
+    pub size: u16,
+    pub gap: u16,
+    pub budget: u64,
+}
+
+// What a command does, or why it is refused: it ends the sheet, makes a new header, describes a tone or adds to one, or silences the
+// tones of a map. A later command has one of these effects too.
 pub enum Command {
     End,
-    Size(u16),
-    Gap(u16),
-    Budget(u64),
-    Describe(u8, Tone),
-    Silence(u8, u32),
     Refused(Refusal),
+    Head(Header),
+    Describe(u16),
+    Silence(u8, u32),
 }
 
 // A command, and the place after it.
@@ -83,110 +102,103 @@ pub struct Decoded {
 
 // Refusal 4, at the place of an operand.
 fn out_of_range(place: usize) -> Command
-    requires { ⌜ place ≤ 4096 ⌝ }
+    requires { ⌜ place ≤ longestSheet ⌝ }
     ensures { λ r. ⌜ r ≡ Refused (OperandOutOfRange place) ⌝ }
 {
     Command::Refused(Refusal::OperandOutOfRange(place as u16))
 }
 
 // One of the first three commands, all of whose bytes are there.
-fn header_command(s: &[u8], at: usize, code: u8) -> Command
-    requires { ⌜ (1 ≤ code) × (code ≤ 3) × (at + 1 + width (rowOf code .operands) ≤ length (now s)) × (length (now s) ≤ 4096) ⌝ }
-    ensures { λ r. ⌜ ((n : ℕ) (described : ℕ → Bool) → r ≡ rowAt n described (now (s .entry)) at (rowOf code)) ⌝ }
+fn header_command(s: &[u8], at: usize, code: u8, header: Header) -> Command
+    requires { ⌜ 1 ≤ code ⌝ }
+    requires { ⌜ code ≤ 3 ⌝ }
+    requires { ⌜ at + 1 + width (rowOf code .operands) ≤ length (now s) ⌝ }
+    requires { ⌜ length (now s) ≤ longestSheet ⌝ }
+    ensures { λ r. ⌜ ((known : Entry) → r ≡ rowAt header known (before s) at (rowOf code)) ⌝ }
 {
     if code == 3 {
         let budget = bigendian::number_at(s, at + 1, 8);
-        if 0x8000_0000_0000 < budget {
+        if MOST_POWER < budget {
             return out_of_range(at + 1);
         }
-        return Command::Budget(budget);
+        return Command::Head(Header {
+            size: header.size,
+            gap: header.gap,
+            budget: budget,
+        });
     }
     let n = bigendian::number_at(s, at + 1, 2);
     if code == 2 {
-        if n < 256 {
+        if n < GAP_UNIT {
             return out_of_range(at + 1);
         }
-        return Command::Gap(n as u16);
+        return Command::Head(Header {
+            size: header.size,
+            gap: n as u16,
+            budget: header.budget,
+        });
     }
     if n < 1 {
         return out_of_range(at + 1);
     }
-    if 256 < n {
+    if (TONES as u64) < n {
         return out_of_range(at + 1);
     }
-    Command::Size(n as u16)
+    Command::Head(Header {
+        size: n as u16,
+        gap: header.gap,
+        budget: header.budget,
+    })
 }
 
 // The largest cap of a tone of either kind.
 fn most_cap(is_single: bool) -> u8
     ensures { λ r. ⌜ r ≡ mostCap «is_single» ⌝ }
 {
-    if is_single { 7 } else { 15 }
+    if is_single { SINGLE_CAP } else { PAIR_CAP }
 }
 
-// A tone of either kind.
-fn tone_of(is_single: bool, numbers: Numbers) -> Tone
-    ensures { λ r. ⌜ r ≡ record { kind = kindOf «is_single» numbers } ⌝ }
+// A tone command of either kind, all of whose bytes are there. `place` is where its tone is described already, or 0.
+fn tone_command(s: &[u8], at: usize, header: Header, place: u16, is_single: bool) -> Command
+    requires { ⌜ at + 15 ≤ length (now s) ⌝ }
+    requires { ⌜ length (now s) ≤ longestSheet ⌝ }
+    ensures { λ r. ⌜ r ≡ rowAt header (entryAt (before s) place) (before s) at (toneRow «is_single») ⌝ }
 {
-    if is_single {
-        return Tone {
-            kind: Kind::Single(numbers),
-        };
-    }
-    Tone {
-        kind: Kind::Pair(numbers),
-    }
-}
-
-// A tone command of either kind, all of whose bytes are there. `taken` says whether its tone is described already.
-fn tone_command(s: &[u8], at: usize, size: u16, taken: bool, is_single: bool) -> Command
-    requires { ⌜ (at + 15 ≤ length (now s)) × (length (now s) ≤ 4096) ⌝ }
-    ensures { λ r. ⌜ r ≡ rowAt size (λ i. taken) (now (s .entry)) at (toneRow «is_single») ⌝ }
-{
-    let tone = s[at + 1];
-    if size <= tone as u16 {
+    let tone = s[at + 1] as u16;
+    if header.size <= tone {
         return Command::Refused(Refusal::ToneBeyondLine((at + 1) as u16));
     }
-    if taken {
+    if 0 < place {
         return Command::Refused(Refusal::ToneRepeated((at + 1) as u16));
     }
-    let noise = bigendian::number_at(s, at + 2, 2);
-    if noise < 1 {
+    if bigendian::number_at(s, at + 2, 2) < 1 {
         return out_of_range(at + 2);
     }
-    let gain = bigendian::number_at(s, at + 4, 2);
-    if gain < 1 {
+    if bigendian::number_at(s, at + 4, 2) < 1 {
         return out_of_range(at + 4);
     }
-    let cap = s[at + 6];
     let most_cap = most_cap(is_single);
-    if most_cap < cap {
+    if most_cap < s[at + 6] {
         return out_of_range(at + 6);
     }
-    let mask = bigendian::number_at(s, at + 7, 8);
-    if 0x8000_0000_0000 < mask {
+    if MOST_POWER < bigendian::number_at(s, at + 7, 8) {
         return out_of_range(at + 7);
     }
-    let numbers = Numbers {
-        noise: noise as u16,
-        gain: gain as u16,
-        cap: cap,
-        mask: mask,
-    };
-    Command::Describe(tone, tone_of(is_single, numbers))
+    Command::Describe(tone)
 }
 
 // The silence command, all of whose bytes are there.
-fn silence_command(s: &[u8], at: usize, size: u16) -> Command
-    requires { ⌜ (at + 6 ≤ length (now s)) × (length (now s) ≤ 4096) ⌝ }
-    ensures { λ r. ⌜ ((described : ℕ → Bool) → r ≡ rowAt size described (now (s .entry)) at silence) ⌝ }
+fn silence_command(s: &[u8], at: usize, header: Header) -> Command
+    requires { ⌜ at + 6 ≤ length (now s) ⌝ }
+    requires { ⌜ length (now s) ≤ longestSheet ⌝ }
+    ensures { λ r. ⌜ ((known : Entry) → r ≡ rowAt header known (before s) at silenceRow) ⌝ }
 {
     let word = s[at + 1];
-    if 7 < word {
+    if WORDS <= word as usize {
         return out_of_range(at + 1);
     }
     let map = bigendian::number_at(s, at + 2, 4) as u32;
-    if silence::names_beyond(size, word, map) {
+    if silence::names_beyond(header.size, word, map) {
         return Command::Refused(Refusal::ToneBeyondLine((at + 2) as u16));
     }
     Command::Silence(word, map)
@@ -194,7 +206,7 @@ fn silence_command(s: &[u8], at: usize, size: u16) -> Command
 
 // How many bytes a command has in all, and 0 where its byte is not allowed after so many of the first three.
 fn command_bytes(stage: u8, code: u8) -> usize
-    ensures { λ r. ⌜ r ≡ bytesOf (withCode (allowed stage) code) ⌝ }
+    ensures { λ r. ⌜ r ≡ bytesOf (withCode (today .rows stage) code) ⌝ }
 {
     if stage == 0 {
         return if code == 1 { 3 } else { 0 };
@@ -213,29 +225,32 @@ fn command_bytes(stage: u8, code: u8) -> usize
     }
 }
 
-// What a command says, all of whose bytes are there.
-fn operands(s: &[u8], at: usize, code: u8, size: u16, taken: bool) -> Command
-    requires { ⌜ (at + 1 + width (rowOf code .operands) ≤ length (now s)) × (length (now s) ≤ 4096) × (1 ≤ code) ⌝ }
-    ensures { λ r. ⌜ r ≡ rowAt size (λ i. taken) (now (s .entry)) at (rowOf code) ⌝ }
+// What a command does, all of whose bytes are there.
+fn operands(s: &[u8], at: usize, code: u8, header: Header, place: u16) -> Command
+    requires { ⌜ 1 ≤ code ⌝ }
+    requires { ⌜ at + 1 + width (rowOf code .operands) ≤ length (now s) ⌝ }
+    requires { ⌜ length (now s) ≤ longestSheet ⌝ }
+    ensures { λ r. ⌜ r ≡ rowAt header (entryAt (before s) place) (before s) at (rowOf code) ⌝ }
 {
     if code < 4 {
-        return header_command(s, at, code);
+        return header_command(s, at, code, header);
     }
     if code < 6 {
-        return tone_command(s, at, size, taken, code == 5);
+        return tone_command(s, at, header, place, code == 5);
     }
     if code == 6 {
-        return silence_command(s, at, size);
+        return silence_command(s, at, header);
     }
     Command::End
 }
 
-// The command at a place, and the place after it. `taken` says whether the tone that the byte after the command names is described already.
-pub fn decode(s: &[u8], at: usize, stage: u8, size: u16, taken: bool) -> Decoded
-    ensures { λ r. ⌜ r ≡ commandAt size (λ i. taken) (now (s .entry)) at stage ⌝ }
+// The command at a place, and the place after it, with the header so far. `place` is where the tone that the command addresses is
+// described already, or 0.
+pub fn decode(s: &[u8], at: usize, stage: u8, header: Header, place: u16) -> Decoded
+    ensures { λ r. ⌜ r ≡ commandAt today header (entryAt (before s) place) (before s) at stage ⌝ }
 {
     let length = s.len();
-    if 4096 < length {
+    if SHEET_BYTES < length {
         return Decoded {
             command: Command::Refused(Refusal::SheetTooLong),
             next: at,
@@ -260,7 +275,56 @@ pub fn decode(s: &[u8], at: usize, stage: u8, size: u16, taken: bool) -> Decoded
         return ends;
     }
     Decoded {
-        command: operands(s, at, code, size, taken),
+        command: operands(s, at, code, header, place),
         next: at + bytes,
     }
+}
+
+// The byte at a place, or 0 past the end.
+fn byte_at(s: &[u8], at: usize) -> u8
+    ensures { λ r. ⌜ r ≡ getD (before s) at 0 ⌝ }
+{
+    if at < s.len() {
+        return s[at];
+    }
+    0
+}
+
+// The tone that the command at a place addresses, if it addresses one.
+pub fn addressed(s: &[u8], at: usize) -> usize
+    ensures meaning { λ r. ⌜ r ≡ addressed (before s) at ⌝ }
+    ensures range { λ r. ⌜ r < mostTones ⌝ }
+{
+    if s.len() <= at {
+        return 0;
+    }
+    byte_at(s, at + 1) as usize
+}
+
+// A tone of either kind.
+fn tone_of(is_single: bool, numbers: Numbers) -> Tone
+    ensures { λ r. ⌜ r ≡ record { kind = kindOf «is_single» numbers } ⌝ }
+{
+    if is_single {
+        return Tone {
+            kind: Kind::Single(numbers),
+        };
+    }
+    Tone {
+        kind: Kind::Pair(numbers),
+    }
+}
+
+// The tone whose command stands at a place. What is not there reads as 0.
+pub fn tone_at(s: &[u8], place: u16) -> Tone
+    ensures { λ r. ⌜ r ≡ toneAt (before s) place ⌝ }
+{
+    let at = place as usize;
+    let numbers = Numbers {
+        noise: bigendian::number_at(s, at + 2, 2) as u16,
+        gain: bigendian::number_at(s, at + 4, 2) as u16,
+        cap: byte_at(s, at + 6),
+        mask: bigendian::number_at(s, at + 7, 8),
+    };
+    tone_of(byte_at(s, at) == 5, numbers)
 }

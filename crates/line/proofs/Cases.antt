@@ -9,14 +9,14 @@ use native.Mathlib.Decide.{decLt, decLe, ℕ-discrete}
 use native.Mathlib.Omega.{arith}
 use borrow.Author.Needs.{needs}
 use lib.Dec.{T}
-use lib.ListN.{length, getD}
+use lib.ListN.{length}
 use Rattle.steps.specs.Tones.{step, before?, Table, powers, sum, list, totalBits, totalPower, sumOfLimits}
 use Rattle.steps.specs.Runs.{against, choice, earliestFree, latestHeld, Answer, moved, finished, fits?, takeIfFits, giveUpOrTake, refitMove, addStep, addStepTo, refitStep, follow, run, mostBits, refitRun, carrying, setBits}
 use Rattle.steps.proofs.SetBits.{too-many}
 use Rattle.line.specs.declared.Kind.the-variants.{Pair}
-use Rattle.line.specs.Tone.{cost, powerOf, largest, limit}
-use Rattle.line.specs.Line.{blank, EntryInRange, LineInRange}
-use Rattle.line.specs.Cases.{Row, most, granted, refused, never, refits, costs, limits, tone, sample, sampleTones, Through, Holds, rows}
+use Rattle.line.specs.Tone.{cost, kindPower, largest, limit}
+use Rattle.line.specs.Line.{EntryInRange, entryOf, LineInRange}
+use Rattle.line.specs.Cases.{Case, most, granted, refused, never, refits, costs, limits, tone, sample, sampleTones, Through, CaseHolds, cases}
 use Rattle.line.proofs.Loads.{line-rising, no-bits-fit}
 
 -- ---- tests that give a proof where they pass
@@ -70,10 +70,10 @@ sample-in-range = record {
   entries = entries;
 }
   where
-    entries : (i : ℕ) → i < 3 → EntryInRange (getD (sample 0 .entries) i blank)
-    entries zero l = record { slot-in-range = search needs }
-    entries (suc zero) l = record { slot-in-range = search needs }
-    entries (suc (suc zero)) l = record { slot-in-range = search needs }
+    entries : (i : ℕ) → i < 3 → EntryInRange (entryOf (sample 0) i)
+    entries zero l = search needs
+    entries (suc zero) l = search needs
+    entries (suc (suc zero)) l = search needs
     entries (suc (suc (suc i))) l = absurd (omega arith)
 
 never-carried : (target : ℕ) → sumOfLimits sampleTones < target → (budget : ℕ) → setBits sampleTones budget target ≡ none
@@ -82,7 +82,7 @@ never-carried target h budget =
 
 -- ---- the rows
 
-unfoldable row : (r : Row) → Option (Holds r)
+unfoldable row : (r : Case) → Option (CaseHolds r)
 unfolding test both onward same sameAnswer sameLoading through
 row (most budget bits power allBits allPower) =
     both (both (same (mostBits sampleTones budget .table) bits) (same (powers sampleTones bits) power))
@@ -95,11 +95,11 @@ row (refits budget start tables) =
 row (costs gap noise gain w) = test (ℕ-discrete (cost gap (tone Pair noise gain 0 0)) w)
 row (limits w mask b) = test (ℕ-discrete (limit (tone Pair 1 1 15 mask) w) b)
 
-abbrev pub All : List Row → Type 0
+abbrev pub All : List Case → Type 0
 All [] = Unit {0}
-All (r ∷ rs) = Holds r × All rs
+All (r ∷ rs) = CaseHolds r × All rs
 
-unfoldable each : (rs : List Row) → Option (All rs)
+unfoldable each : (rs : List Case) → Option (All rs)
 unfolding both row
 each [] = some tt
 each (r ∷ rs) = both (row r) (each rs)
@@ -114,6 +114,6 @@ unfolding passed
 proof (some a) p = a
 proof none p = absurd p
 
-pub starred-cases : All rows
-unfolding rows test both onward same sameAnswer sameLoading through row each passed cost powerOf largest limit step before? sum list against choice earliestFree latestHeld fits? takeIfFits giveUpOrTake refitMove addStep addStepTo refitStep follow run carrying setBits decLt decLe ℕ-discrete
-starred-cases = proof (each rows) tt
+pub starred-cases : All cases
+unfolding cases test both onward same sameAnswer sameLoading through row each passed cost kindPower largest limit step before? sum list against choice earliestFree latestHeld fits? takeIfFits giveUpOrTake refitMove addStep addStepTo refitStep follow run carrying setBits decLt decLe ℕ-discrete
+starred-cases = proof (each cases) tt

@@ -8,7 +8,7 @@ use lib.Pow.{pow-pos, pow-add, pow-mono}
 use Rattle.line.specs.declared.Kind.{Kind}
 use Rattle.line.specs.declared.Kind.the-variants.{Pair, Single}
 use Rattle.line.specs.declared.Tone.{Tone}
-use Rattle.line.specs.Tone.{mostCap, powerOf, doublingsOf, doublings, carried, InRange, power, step}
+use Rattle.line.specs.Tone.{isSingle, mostCap, kindPower, doublingsOf, doublings, carried, InRange, power, step}
 
 four-pow : (b : ℕ) → 4 ^ b ≡ 2 ^ (2 * b)
 four-pow zero = refl
@@ -17,8 +17,8 @@ four-pow (suc b) =
     omega (arith, pow-suc 4 b, four-pow b, ap (λ (n : ℕ). 2 ^ n) e ∙ pow-add 2 (2 * b) 2)
 
 -- the power of b bits is the cost shifted by so many doublings, less the cost
-pub power-shift : (k : Kind) (w b : ℕ) → powerOf k w b ≡ w * 2 ^ (doublingsOf k * b) - w
-unfolding powerOf
+pub power-shift : (k : Kind) (w b : ℕ) → kindPower k w b ≡ w * 2 ^ (doublingsOf k * b) - w
+unfolding kindPower
 power-shift (Pair n) w b =
     let e : 1 * b ≡ b = omega arith in
     rw (mul-sub w (2 ^ b) 1, e) (omega arith)
@@ -28,7 +28,7 @@ pub doublings-low : (k : Kind) → 1 ≤ doublingsOf k
 doublings-low (Pair n) = omega arith
 doublings-low (Single n) = omega arith
 
-shift-high : (k : Kind) (b cap : ℕ) → b ≤ cap → cap ≤ mostCap k → doublingsOf k * b ≤ 15
+shift-high : (k : Kind) (b cap : ℕ) → b ≤ cap → cap ≤ mostCap (isSingle k) → doublingsOf k * b ≤ 15
 shift-high (Pair n) b cap h l = omega arith
 shift-high (Single n) b cap h l = omega arith
 

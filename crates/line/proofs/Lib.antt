@@ -4,4 +4,5 @@ pub mod Growth
 pub mod Limits
 pub mod Masks
 pub mod Loads
+pub mod Arrays
 pub mod Cases

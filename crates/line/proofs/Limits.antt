@@ -8,11 +8,11 @@ use native.Mathlib.Omega.{arith}
 use Rattle.line.specs.declared.Kind.{Kind}
 use Rattle.line.specs.declared.Kind.the-variants.{Pair, Single}
 use Rattle.line.specs.declared.Tone.{Tone}
-use Rattle.line.specs.Tone.{carried, mostCap, InRange, power, limit}
+use Rattle.line.specs.Tone.{carried, isSingle, mostCap, InRange, power, limit}
 use Rattle.line.proofs.Largest.{Largest, largest-is, largest-unique}
 use Rattle.line.proofs.Growth.{power-zero, power-grows}
 
-mostCap-high : (k : Kind) → mostCap k ≤ 15
+mostCap-high : (k : Kind) → mostCap (isSingle k) ≤ 15
 mostCap-high (Pair n) = omega arith
 mostCap-high (Single n) = omega arith
 

@@ -4,7 +4,7 @@ use mathlib.Core.Path.{_≡_, ap, _∙_}
 use mathlib.Core.Bool.{Bool, true, false}
 use Prim.Native.Nat.{ℕ, suc, _+_, _≤_, _<_}
 use native.Mathlib.Omega.{arith}
-use lib.ListN.{getD, getD-replicate}
+use lib.ListN.{getD-replicate, length-replicate}
 use Rattle.silence.specs.Map.{silenced}
 use Rattle.steps.specs.Tones.{Rising, Table, _!_, noBits, KeepsLimits, KeepsBudget}
 use Rattle.steps.specs.Runs.{setBits}
@@ -13,70 +13,65 @@ use Rattle.steps.proofs.Sums.{sum-zero}
 use Rattle.steps.proofs.Rising.{rising}
 use Rattle.steps.proofs.Demand3.{demand-3}
 use Rattle.steps.proofs.SetBits.{set-bits}
-use Rattle.line.specs.declared.Slot.{Slot}
-use Rattle.line.specs.declared.Slot.the-variants.{Undescribed, Described}
 use Rattle.line.specs.declared.Steps.{Steps}
-use Rattle.line.specs.declared.Line.{Line}
 use Rattle.line.specs.Tone.{Gap, cost}
-use Rattle.line.specs.Line.{blank, limitOf, powerOf, tones, SlotInRange, LineInRange, stepsOfSlot, stepsOf, powerIn, stepSize}
+use Rattle.line.specs.Line.{Entry, undescribed, described, Line, entryOf, entryLimit, entryPower, tones, EntryInRange, LineInRange, entrySteps, stepsAt}
+use Rattle.line.specs.Arrays.{powerIn, stepSize}
 use Rattle.line.proofs.Ceiling.{cost-range}
 use Rattle.line.proofs.Growth.{power-is, power-grows, power-zero, step-rises}
 
-slot-no-bits : (g : ℕ) (s : Slot) → powerOf g s 0 ≡ 0
-slot-no-bits g Undescribed = omega arith
-slot-no-bits g (Described t) = power-zero t (cost g t)
+entry-no-bits : (g : ℕ) (e : Entry) → entryPower g e 0 ≡ 0
+entry-no-bits g undescribed = omega arith
+entry-no-bits g (described t) = power-zero t (cost g t)
 
-slot-grows : (g : ℕ) (s : Slot) (b : ℕ) → powerOf g s b ≤ powerOf g s (suc b)
-slot-grows g Undescribed b = omega arith
-slot-grows g (Described t) b = power-grows t (cost g t) b
+entry-grows : (g : ℕ) (e : Entry) (b : ℕ) → entryPower g e b ≤ entryPower g e (suc b)
+entry-grows g undescribed b = omega arith
+entry-grows g (described t) b = power-grows t (cost g t) b
 
 -- the power of bits within the limit is that of the code's account
-slot-power : (g : ℕ) (s : Slot) (q : Bool) (b : ℕ) → b ≤ limitOf g s q
-    → powerOf g s b ≡ powerIn (stepsOfSlot g s q .cost) (stepsOfSlot g s q .doublings) b
-slot-power g s true b h = let e : b ≡ 0 = omega arith in rw e (omega (arith, slot-no-bits g s))
-slot-power g Undescribed false b h = omega arith
-slot-power g (Described t) false b h = power-is t (cost g t) b
+entry-power : (g : ℕ) (e : Entry) (q : Bool) (b : ℕ) → b ≤ entryLimit g e q
+    → entryPower g e b ≡ powerIn (entrySteps g e q .cost) (entrySteps g e q .doublings) b
+entry-power g e true b h = let z : b ≡ 0 = omega arith in rw z (omega (arith, entry-no-bits g e))
+entry-power g undescribed false b h = omega arith
+entry-power g (described t) false b h = power-is t (cost g t) b
 
 -- the step at b bits by the code's account of a tone
 abbrev stepBy : Steps → (b : ℕ) → ℕ
 stepBy s b = stepSize (s .cost) (s .doublings) b
 
-slot-add-up : (g : ℕ) (s : Slot) (q : Bool) (b : ℕ) → b < limitOf g s q → powerOf g s (suc b) ≡ powerOf g s b + stepBy (stepsOfSlot g s q) b
-slot-add-up g s q b h =
-    rw (← slot-power g s q (suc b) h, ← slot-power g s q b (omega arith)) (omega (arith, slot-grows g s b))
+entry-add-up : (g : ℕ) (e : Entry) (q : Bool) (b : ℕ) → b < entryLimit g e q → entryPower g e (suc b) ≡ entryPower g e b + stepBy (entrySteps g e q) b
+entry-add-up g e q b h =
+    rw (← entry-power g e q (suc b) h, ← entry-power g e q b (omega arith)) (omega (arith, entry-grows g e b))
 
-slot-rise : (g : ℕ) (s : Slot) (q : Bool) (b : ℕ) → Gap g → SlotInRange s → suc b < limitOf g s q
-    → stepBy (stepsOfSlot g s q) b < stepBy (stepsOfSlot g s q) (suc b)
-slot-rise g s true b G I h = omega arith
-slot-rise g Undescribed false b G I h = omega arith
-slot-rise g (Described t) false b G I h =
+entry-rise : (g : ℕ) (e : Entry) (q : Bool) (b : ℕ) → Gap g → EntryInRange e → suc b < entryLimit g e q
+    → stepBy (entrySteps g e q) b < stepBy (entrySteps g e q) (suc b)
+entry-rise g e true b G I h = omega arith
+entry-rise g undescribed false b G I h = omega arith
+entry-rise g (described t) false b G I h =
     let w = cost g t in
     rw (← power-is t w b, ← power-is t w (suc b), ← power-is t w (suc (suc b))) (step-rises t w b (cost-range g t G I .low))
 
 module _ (l : Line) (I : LineInRange l) where
-  slot : ℕ → Slot
-  slot i = getD (l .entries) i blank .slot
-
   pub line-rising : Rising (tones l)
-  unfolding slot
   line-rising =
-      rising (tones l) (λ i b. stepBy (stepsOfSlot (l .gap) (slot i) (silenced (l .maps) i)) b)
-      (λ i b il bl. slot-add-up (l .gap) (slot i) (silenced (l .maps) i) b bl)
-      (λ i b il bl. slot-rise (l .gap) (slot i) (silenced (l .maps) i) b (I .gap) (I .entries i il .slot-in-range) bl)
+      rising (tones l) (λ i b. stepBy (stepsAt l i) b)
+      (λ i b il bl. entry-add-up (l .gap) (entryOf l i) (silenced (l .maps) i) b bl)
+      (λ i b il bl. entry-rise (l .gap) (entryOf l i) (silenced (l .maps) i) b (I .gap) (I .entries i il) bl)
 
-  -- the powers of a line are those of the code's account
-  pub line-power : (i b : ℕ) → b ≤ tones l .limit i
-      → let s = stepsOf (l .gap) (getD (l .entries) i blank) (silenced (l .maps) i) in tones l .power i b ≡ powerIn (s .cost) (s .doublings) b
-  line-power i b bl = slot-power (l .gap) (getD (l .entries) i blank .slot) (silenced (l .maps) i) b bl
+  -- the powers of a line are those of what the code keeps of its tones
+  pub line-power : (i b : ℕ) → b ≤ tones l .limit i → tones l .power i b ≡ powerIn (stepsAt l i .cost) (stepsAt l i .doublings) b
+  line-power i b bl = entry-power (l .gap) (entryOf l i) (silenced (l .maps) i) b bl
 
   -- 'No bits, no power': the table of no bits keeps every budget
   pub no-bits-fit : (budget : ℕ) → KeepsBudget (tones l) budget (noBits (tones l))
-  unfolding slot
-  no-bits-fit budget = omega (arith, sum-zero (l .size) (λ i. powerOf (l .gap) (slot i) (noBits (tones l) ! i)) none)
+  no-bits-fit budget = omega (arith, sum-zero (l .size) (λ i. entryPower (l .gap) (entryOf l i) (noBits (tones l) ! i)) none)
     where
-      none : (i : ℕ) → i < l .size → powerOf (l .gap) (slot i) (noBits (tones l) ! i) ≡ 0
+      none : (i : ℕ) → i < l .size → entryPower (l .gap) (entryOf l i) (noBits (tones l) ! i) ≡ 0
       none i il =
-          ap (powerOf (l .gap) (slot i)) (getD-replicate {A = ℕ} (l .size) i 0 0 il) ∙ slot-no-bits (l .gap) (slot i)
+          ap (entryPower (l .gap) (entryOf l i)) (getD-replicate {A = ℕ} (l .size) i 0 0 il) ∙ entry-no-bits (l .gap) (entryOf l i)
+
+  pub no-bits-keep : KeepsLimits (tones l) (noBits (tones l))
+  no-bits-keep = record { sized = length-replicate (l .size) 0; under = λ i il. omega (arith, getD-replicate {A = ℕ} (l .size) i 0 0 il) }
 
   -- Demand 3, of every line in range and every starting table that keeps the limits.
   pub line-demand-3 : (t : Table) → KeepsLimits (tones l) t → Demand3 (tones l) (l .budget) t

@@ -1,27 +1,21 @@
--- The starred cases of document 01, 'Sample line', as rows of one list, and what each row says of the definitions.
+-- The starred cases of document 01, 'Sample line', as rows of one list, and what each says of the definitions.
 -- Assumes nothing.
 use mathlib.Core.Path.{_≡_}
 use mathlib.Core.List.{List, [], _∷_}
 use mathlib.Core.Option.{none, some}
 use Prim.Native.Nat.{ℕ}
-use lib.ListN.{replicate, length}
+use lib.ListN.{length}
 use Rattle.steps.specs.Tones.{Tones, Table, powers, totalBits, totalPower}
 use Rattle.steps.specs.Runs.{Answer, moved, finished, refitStep, mostBits, refitRun, setBits}
 use Rattle.line.specs.declared.Kind.{Kind}
 use Rattle.line.specs.declared.Kind.the-variants.{Pair, Single}
 use Rattle.line.specs.declared.Numbers.{Numbers}
 use Rattle.line.specs.declared.Tone.{Tone}
-use Rattle.line.specs.declared.Slot.the-variants.{Described}
-use Rattle.line.specs.declared.Entry.{Entry}
-use Rattle.line.specs.declared.Line.{Line}
 use Rattle.line.specs.Tone.{cost, limit}
-use Rattle.line.specs.Line.{tones}
+use Rattle.line.specs.Line.{described, Line, tones}
 
 abbrev pub tone : (Numbers → Kind) → (noise gain cap mask : ℕ) → Tone
 tone kind noise gain cap mask = record { kind = kind (record { noise = noise; gain = gain; cap = cap; mask = mask }) }
-
-abbrev pub described : Tone → Entry
-described t = record { slot = Described t }
 
 -- 'Gap 256; tone 0 pair, noise 3, cap 15; tone 1 pair, noise 5, cap 2; tone 2 single, noise 1, cap 7; gains 1, masks 100.'
 abbrev pub sample : (budget : ℕ) → Line
@@ -30,47 +24,47 @@ sample budget = record {
   gap = 256;
   budget = budget;
   entries = described (tone Pair 3 1 15 100) ∷ described (tone Pair 5 1 2 100) ∷ described (tone Single 1 1 7 100) ∷ [];
-  maps = replicate 8 0;
+  maps = 0 ∷ [];
 }
 
 -- the same tones at every budget
 abbrev pub sampleTones : Tones
 sampleTones = tones (sample 0)
 
-pub data Row : Type 0 where
+pub data Case : Type 0 where
   -- budget: the loading for most bits, as bits and powers of each tone, total bits and total power
-  most : (budget : ℕ) → (bits power : List ℕ) → (allBits allPower : ℕ) → Row
+  most : (budget : ℕ) → (bits power : List ℕ) → (allBits allPower : ℕ) → Case
   -- target and budget: the loading of a set number of bits, or refusal 11
-  granted : (target budget : ℕ) → (bits : List ℕ) → Row
-  refused : (target budget : ℕ) → Row
+  granted : (target budget : ℕ) → (bits : List ℕ) → Case
+  refused : (target budget : ℕ) → Case
   -- target: refusal 11 at every budget
-  never : (target : ℕ) → Row
+  never : (target : ℕ) → Case
   -- budget and start: the tables that the re-fit moves through, one after each move
-  refits : (budget : ℕ) → (start : List ℕ) → (through : List (List ℕ)) → Row
+  refits : (budget : ℕ) → (start : List ℕ) → (through : List (List ℕ)) → Case
   -- gap, noise, gain: the cost
-  costs : (gap noise gain w : ℕ) → Row
+  costs : (gap noise gain w : ℕ) → Case
   -- cost and mask: the limit of a pair tone
-  limits : (w mask b : ℕ) → Row
+  limits : (w mask b : ℕ) → Case
 
 -- The rule's own steps from t: each answers 'moved' with the next table listed, and the last table is finished.
 abbrev pub Through : (Table → Answer) → Table → List Table → Type 0
 Through rule t [] = rule t ≡ finished
 Through rule t (u ∷ us) = (rule t ≡ moved u) × Through rule u us
 
-abbrev pub Holds : Row → Type 0
-Holds (most budget bits power allBits allPower) =
+abbrev pub CaseHolds : Case → Type 0
+CaseHolds (most budget bits power allBits allPower) =
     ((mostBits sampleTones budget .table ≡ bits) × (powers sampleTones bits ≡ power))
     × ((totalBits sampleTones bits ≡ allBits) × (totalPower sampleTones bits ≡ allPower))
-Holds (granted target budget bits) = setBits sampleTones budget target ≡ some bits
-Holds (refused target budget) = setBits sampleTones budget target ≡ none
-Holds (never target) = (budget : ℕ) → setBits sampleTones budget target ≡ none
-Holds (refits budget start through) =
+CaseHolds (granted target budget bits) = setBits sampleTones budget target ≡ some bits
+CaseHolds (refused target budget) = setBits sampleTones budget target ≡ none
+CaseHolds (never target) = (budget : ℕ) → setBits sampleTones budget target ≡ none
+CaseHolds (refits budget start through) =
     Through (refitStep sampleTones budget) start through × (refitRun sampleTones budget start .moves ≡ length through)
-Holds (costs gap noise gain w) = cost gap (tone Pair noise gain 0 0) ≡ w
-Holds (limits w mask b) = limit (tone Pair 1 1 15 mask) w ≡ b
+CaseHolds (costs gap noise gain w) = cost gap (tone Pair noise gain 0 0) ≡ w
+CaseHolds (limits w mask b) = limit (tone Pair 1 1 15 mask) w ≡ b
 
-unfoldable pub rows : List Row
-rows =
+unfoldable pub cases : List Case
+cases =
     most 39 (3 ∷ 2 ∷ 1 ∷ []) (21 ∷ 15 ∷ 3 ∷ []) 6 39
     ∷ most 38 (2 ∷ 2 ∷ 1 ∷ []) (9 ∷ 15 ∷ 3 ∷ []) 5 27
     ∷ most 51 (3 ∷ 2 ∷ 2 ∷ []) (21 ∷ 15 ∷ 15 ∷ []) 7 51

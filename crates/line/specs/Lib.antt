@@ -1,3 +1,4 @@
 pub mod Tone
 pub mod Line
+pub mod Arrays
 pub mod Cases

@@ -1,8 +1,10 @@
 -- One tone. Document 01, 'Cost, power and limit of a tone'.
 -- Assumes nothing.
+use mathlib.Core.Bool.{Bool, true, false}
 use mathlib.Core.Logic.{ite}
 use Prim.Native.Nat.{ℕ, zero, suc, _+_, _-_, _*_, _/_, _^_, _≤_}
 use native.Mathlib.Decide.{decLe}
+use Rattle.sizes.specs.Sizes.{pairCap, singleCap, mostPower}
 use Rattle.line.specs.declared.Numbers.{Numbers}
 use Rattle.line.specs.declared.Kind.{Kind}
 use Rattle.line.specs.declared.Kind.the-variants.{Pair, Single}
@@ -16,10 +18,19 @@ carriedBy (Single n) = n
 abbrev pub carried : Tone → Numbers
 carried t = carriedBy (t .kind)
 
+-- a tone of either kind, with these numbers
+abbrev pub kindOf : (single : Bool) → Numbers → Kind
+kindOf false = Pair
+kindOf true = Single
+
+abbrev pub isSingle : Kind → Bool
+isSingle (Pair n) = false
+isSingle (Single n) = true
+
 -- 'The kinds are pair (two-dimensional, cap 0 to 15) and single (one-dimensional, cap 0 to 7).'
-abbrev pub mostCap : Kind → ℕ
-mostCap (Pair n) = 15
-mostCap (Single n) = 7
+abbrev pub mostCap : (single : Bool) → ℕ
+mostCap false = pairCap
+mostCap true = singleCap
 
 -- The ranges of what a tone carries: noise and gain from 1 to 65,535, mask from 0 to 2^47.
 pub record InRange (t : Tone) : Type 0 where
@@ -27,12 +38,15 @@ pub record InRange (t : Tone) : Type 0 where
   pub noise-high : carried t .noise ≤ 65535
   pub gain-low : 1 ≤ carried t .gain
   pub gain-high : carried t .gain ≤ 65535
-  pub cap-high : carried t .cap ≤ mostCap (t .kind)
-  pub mask-high : carried t .mask ≤ 2 ^ 47
+  pub cap-high : carried t .cap ≤ mostCap (isSingle (t .kind))
+  pub mask-high : carried t .mask ≤ mostPower
 
 -- 'The gap g (256 to 65,535) is in 1/256: 256 means no gap.'
+abbrev pub gapUnit : ℕ
+gapUnit = 256
+
 pub record Gap (g : ℕ) : Type 0 where
-  pub low : 256 ≤ g
+  pub low : gapUnit ≤ g
   pub high : g ≤ 65535
 
 -- the smallest whole number not below a / b, for b above zero
@@ -41,7 +55,7 @@ ceiling a b = (a + (b - 1)) / b
 
 -- 'Cost w is the smallest whole number not below g × noise / (256 × gain).'
 unfoldable pub cost : (g : ℕ) → Tone → ℕ
-cost g t = ceiling (g * carried t .noise) (256 * carried t .gain)
+cost g t = ceiling (g * carried t .noise) (gapUnit * carried t .gain)
 
 -- 'from 1 to 16,776,705'
 pub record Cost (w : ℕ) : Type 0 where
@@ -49,12 +63,12 @@ pub record Cost (w : ℕ) : Type 0 where
   pub high : w ≤ 16776705
 
 -- 'Power of b bits: pair w × (2^b − 1), single w × (4^b − 1). No bits, no power.'
-unfoldable pub powerOf : Kind → (w b : ℕ) → ℕ
-powerOf (Pair n) w b = w * (2 ^ b - 1)
-powerOf (Single n) w b = w * (4 ^ b - 1)
+unfoldable pub kindPower : Kind → (w b : ℕ) → ℕ
+kindPower (Pair n) w b = w * (2 ^ b - 1)
+kindPower (Single n) w b = w * (4 ^ b - 1)
 
 abbrev pub power : Tone → (w b : ℕ) → ℕ
-power t w b = powerOf (t .kind) w b
+power t w b = kindPower (t .kind) w b
 
 -- 'The step of a tone at b bits is the power of b + 1 bits less the power of b.'
 abbrev pub step : Tone → (w b : ℕ) → ℕ

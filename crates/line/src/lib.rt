@@ -1,8 +1,12 @@
-// One tone of a line, and the line: document 01, 'Cost, power and limit of a tone'.
+// One tone of a line: document 01, 'Cost, power and limit of a tone'.
 ghost use mathlib.Core.Path.{_≡_};
 ghost use Prim.Native.Nat.{_*_, _^_, _≤_, _<_};
-ghost use Rattle.line.specs.Line.{EntryInRange, powerIn, stepsOf};
+ghost use Rattle.line.specs.Line.{stepsOf};
+ghost use Rattle.line.specs.Arrays.{powerIn};
 ghost use Rattle.line.specs.Tone.{carried, doublings, InRange, Gap, Cost, cost, power, limit};
+
+// The unit of the gap: a gap of 256 is none.
+pub const GAP_UNIT: u64 = 256;
 
 // What a tone of either kind carries: noise, gain, cap and mask.
 pub struct Numbers {
@@ -22,35 +26,16 @@ pub struct Tone {
     pub kind: Kind,
 }
 
-// A tone of a line is described or not. The blank case stands first, so that it is the one an empty place has.
-pub enum Slot {
-    Undescribed,
-    Described(Tone),
-}
-
-pub struct Entry {
-    pub slot: Slot,
-}
-
-// A line: N, gap, budget, the described tones with what they carry, and the set of silenced tones, 32 to a map.
-pub struct Line {
-    pub size: u16,
-    pub gap: u16,
-    pub budget: u64,
-    pub entries: [Entry; 256],
-    pub maps: [u32; 8],
-}
-
 // What the runs need of a tone, whichever its kind: its limit, and its powers. The power of b bits is the cost, doubled `doublings` × b
 // times, less the cost.
 pub struct Steps {
     pub limit: u8,
-    pub cost: u64,
+    pub cost: u32,
     pub doublings: u8,
 }
 
 // What the tone carries, whichever its kind.
-pub fn carried(tone: Tone) -> Numbers
+fn carried(tone: Tone) -> Numbers
     ensures { λ r. ⌜ r ≡ carried tone ⌝ }
 {
     let kind = tone.kind;
@@ -61,7 +46,7 @@ pub fn carried(tone: Tone) -> Numbers
 }
 
 // How much one bit more multiplies a step by, as a power of 2: a pair tone's steps double, a single tone's go up fourfold.
-pub fn doublings(tone: Tone) -> u8
+fn doublings(tone: Tone) -> u8
     ensures { λ r. ⌜ r ≡ doublings tone ⌝ }
 {
     let kind = tone.kind;
@@ -72,27 +57,29 @@ pub fn doublings(tone: Tone) -> u8
 }
 
 // The cost of a tone at a gap: the noise over the gain, with the gap, rounded up.
-pub fn cost(gap: u16, tone: Tone) -> u64
+fn cost(gap: u16, tone: Tone) -> u32
     requires { ⌜ Gap gap × InRange tone ⌝ }
     ensures meaning { λ r. ⌜ r ≡ cost gap tone ⌝ }
     ensures range { λ r. ⌜ Cost r ⌝ }
 {
     let n = carried(tone);
     let top = gap as u64 * n.noise as u64;
-    let bottom = 256 * n.gain as u64;
-    (top + (bottom - 1)) / bottom
+    let bottom = GAP_UNIT * n.gain as u64;
+    ((top + (bottom - 1)) / bottom) as u32
 }
 
 // The power of a number of bits: the cost, doubled `doublings` × bits times, less the cost.
-pub fn power_at(cost: u64, doublings: u8, bits: u8) -> u64
-    requires { ⌜ (cost < 2 ^ 24) × (doublings * bits ≤ 15) ⌝ }
+pub fn power_at(cost: u32, doublings: u8, bits: u8) -> u64
+    requires { ⌜ cost < 2 ^ 24 ⌝ }
+    requires { ⌜ doublings * bits ≤ 15 ⌝ }
     ensures { λ r. ⌜ r ≡ powerIn cost doublings bits ⌝ }
 {
+    let cost = cost as u64;
     (cost << (doublings as u32 * bits as u32)) - cost
 }
 
 // The power of a number of bits of a tone, at most the cap.
-pub fn power(tone: Tone, cost: u64, bits: u8) -> u64
+fn power(tone: Tone, cost: u32, bits: u8) -> u64
     requires { ⌜ Cost cost × (bits ≤ carried tone .cap) × InRange tone ⌝ }
     ensures { λ r. ⌜ r ≡ power tone cost bits ⌝ }
 {
@@ -100,7 +87,7 @@ pub fn power(tone: Tone, cost: u64, bits: u8) -> u64
 }
 
 // The limit of a tone, by trying one bit more until the cap or the mask stops it.
-pub fn limit(tone: Tone, cost: u64) -> u8
+fn limit(tone: Tone, cost: u32) -> u8
     requires { ⌜ Cost cost × InRange tone ⌝ }
     ensures { λ r. ⌜ r ≡ limit tone cost ⌝ }
 {
@@ -116,29 +103,16 @@ pub fn limit(tone: Tone, cost: u64) -> u8
     bits
 }
 
-// What the runs need of an entry: a tone that is not described, or silenced, has limit 0.
-pub fn steps_of(gap: u16, entry: Entry, silenced: bool) -> Steps
-    requires { ⌜ Gap gap × EntryInRange entry ⌝ }
-    ensures { λ r. ⌜ r ≡ stepsOf gap entry silenced ⌝ }
+// What the runs need of a tone that is described and not silenced.
+pub fn steps_of(gap: u16, tone: Tone) -> Steps
+    requires { ⌜ Gap gap ⌝ }
+    requires { ⌜ InRange tone ⌝ }
+    ensures { λ r. ⌜ r ≡ stepsOf gap tone ⌝ }
 {
-    let none = Steps {
-        limit: 0,
-        cost: 0,
-        doublings: 0,
-    };
-    if silenced {
-        return none;
-    }
-    let slot = entry.slot;
-    match slot {
-        Slot::Undescribed => none,
-        Slot::Described(tone) => {
-            let w = cost(gap, tone);
-            Steps {
-                limit: limit(tone, w),
-                cost: w,
-                doublings: doublings(tone),
-            }
-        }
+    let w = cost(gap, tone);
+    Steps {
+        limit: limit(tone, w),
+        cost: w,
+        doublings: doublings(tone),
     }
 }

@@ -1,3 +1,3 @@
-pub mod SameLoading
-pub mod Written
 pub mod Outcomes
+pub mod Promises
+pub mod Written

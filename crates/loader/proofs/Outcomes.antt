@@ -1,52 +1,74 @@
--- From the outcome of a loading of a line to that of a call on bytes: the sheet's refusal, or the line's loading; with the paper's numbers.
+-- From the outcome of a loading of tones to that of a call on bytes: the sheet's refusal, or the loading of its line's tones.
 -- Assumes nothing.
 use mathlib.Core.List.{List}
+use mathlib.Core.Path.{_≡_, refl, fun-ext}
 use Prim.Native.Nat.{ℕ}
-use mathlib.Core.Path.{_≡_, refl, ap, sym, _∙_}
-use Rattle.line.specs.declared.Line.{Line}
-use Rattle.line.specs.Line.{LineInRange}
+use Rattle.sizes.specs.Sizes.{mostBitsOfAll}
+use Rattle.steps.specs.Tones.{Tones}
+use Rattle.line.specs.Line.{Line, LineInRange, tones}
+use Rattle.line.specs.Arrays.{Arrays, ArraysOf}
+use Rattle.line.proofs.Loads.{line-rising, no-bits-fit}
+use Rattle.line.proofs.Masks.{limits-high}
+use Rattle.line.proofs.Arrays.{line-arrays-in-range, line-describes}
 use Rattle.command.specs.declared.Refusal.{Refusal}
-use Rattle.lineloads.specs.declared.Loaded.{Loaded}
-use Rattle.lineloads.specs.declared.Refitted.{Refitted}
-use Rattle.lineloads.specs.Loads.{Loading, loaded, turned-down, loadAnswer, loadNumbers, loadOutcome, afterLoading}
-use Rattle.lineloads.specs.Refits.{refitAnswer, refitNumbers, refitOutcome}
-use Rattle.lineloads.proofs.Outcomes.{LoadEnds, RefitEnds}
-use Rattle.sheet.specs.declared.Sheet.{Sheet}
-use Rattle.sheet.specs.declared.Answer.the-variants.{Accepted}
-use Rattle.sheet.specs.Reading.{Reading, accepted, refused, readingOf, reading}
-use Rattle.sheet.proofs.Sound.{Bytes}
-use Rattle.sheet.proofs.Accepted.{accepted-sound}
-use Rattle.sheet.proofs.Answers.{accepted-as}
-use Rattle.loader.specs.Calls.{onLine}
+use Rattle.command.specs.declared.Header.{Header}
+use Rattle.loadings.specs.Loads.{Loading, turned-down, Loadable, SomeTones, ForTones}
+use Rattle.loadings.specs.Refits.{refitUpTo, refitOn, stepOn}
+use Rattle.loadings.proofs.UpTo.{whole-refit, single-step}
+use Rattle.sheet.specs.Reading.{Meaning, accepted, refused, reading}
+use Rattle.sheet.proofs.Sound.{Bytes, accepted-sound}
+use Rattle.sheet.specs.declared.Read.{Read}
+use Rattle.sheet.specs.declared.Read.the-variants as read
+use Rattle.arrays.specs.Tones.{TonesOf}
+use Rattle.arrays.proofs.Uses.{HeldLine, held-line, was-refused}
+use Rattle.loader.specs.Calls.{onLine, refit, oneStep, refitBy}
 
--- the line of an accepted sheet is in range
-pub ready : (s : List ℕ) → Bytes s → (r : Sheet) → readingOf r ≡ reading s → r .answer ≡ Accepted → LineInRange (r .line)
-ready s b r e a = accepted-sound s b (r .line) (accepted-as r e a) .in-range
+-- ---- what was read
 
-pub on-refused : {x : Reading} {q : Refusal} (on : Line → Loading) → x ≡ refused q → onLine x on ≡ turned-down q
-on-refused on e = simp e
+module _ {r : Read} {old new : Arrays} {m : Meaning} (x : TonesOf r old new m) where
+  pub held : {h : Header} → r ≡ read.Accepted h → HeldLine h new m
+  held e = held-line m (rw e at x)
 
-pub on-accepted : {x : Reading} {l : Line} (on : Line → Loading) → x ≡ accepted l → onLine x on ≡ on l
-on-accepted on e = simp e
+  pub refusal-is : {q : Refusal} → r ≡ read.Refused q → m ≡ refused q
+  refusal-is e = was-refused m (rw e at x)
 
--- the enum's numbers are the outcome's
-load-numbers : (x : Loading) → loadNumbers (loadAnswer x) ≡ loadOutcome x
-load-numbers (loaded l r) = refl
-load-numbers (turned-down r) = refl
+-- ---- the loading of a line's tones
 
-refit-numbers : (x : Loading) → refitNumbers (refitAnswer x) ≡ refitOutcome x
-refit-numbers (loaded l r) = refl
-refit-numbers (turned-down r) = refl
+pub line-loadable : (l : Line) → LineInRange l → {A : Arrays} → ArraysOf l A → Loadable (l .size) A (tones l)
+line-loadable l I {A} h = record { in-range = line-arrays-in-range l I A h; describes = line-describes l I A h; rising = line-rising l I }
 
--- what a call has to show: its answer, that in the paper's numbers, and the buffer
-pub load-call : {x y : Loading} (old : List ℕ) {after : List ℕ} {r : Loaded} → x ≡ y → LoadEnds y old after r
-    → (r ≡ loadAnswer x) × ((loadNumbers r ≡ loadOutcome x) × (after ≡ afterLoading x old))
-load-call {x} {y} old {after} {r} e h =
-    let a : r ≡ loadAnswer x = h .0 ∙ ap loadAnswer (sym e) in
-    (a, (ap loadNumbers a ∙ load-numbers x, h .1 ∙ ap (λ (z : Loading). afterLoading z old) (sym e)))
+module _ {h : Header} {A : Arrays} {m : Meaning} (x : HeldLine h A m) where
+  held-loadable : Loadable (h .size) A (tones (x .line))
+  held-loadable = rw (← x .header-is) (line-loadable (x .line) (x .in-range) (x .arrays-of))
 
-pub refit-call : {x y : Loading} (old : List ℕ) {after : List ℕ} {r : Refitted} → x ≡ y → RefitEnds y old after r
-    → (r ≡ refitAnswer x) × ((refitNumbers r ≡ refitOutcome x) × (after ≡ afterLoading x old))
-refit-call {x} {y} old {after} {r} e h =
-    let a : r ≡ refitAnswer x = h .0 ∙ ap refitAnswer (sym e) in
-    (a, (ap refitNumbers a ∙ refit-numbers x, h .1 ∙ ap (λ (z : Loading). afterLoading z old) (sym e)))
+  pub some-tones : SomeTones (h .size) A
+  some-tones = record { tones = tones (x .line); loadable = held-loadable }
+
+  -- what holds of all tones that the arrays describe holds of the line's, within the line's budget
+  pub on-held : (P : ((room : ℕ) → Loading) → Type 0) (on : Tones → (budget room : ℕ) → Loading) → ForTones (h .size) A (λ T. P (on T (h .budget))) → P (λ room. onLine m (λ T budget. on T budget room))
+  on-held P on f = rw (x .means) (rw (← x .header-is) at (f (tones (x .line)) held-loadable))
+
+-- a sheet that was refused
+pub not-loaded : {m : Meaning} {q : Refusal} → m ≡ refused q → (on : Tones → (budget : ℕ) → Loading) → onLine m on ≡ turned-down q
+not-loaded e on = rw e
+
+-- ---- the two re-fits that the code makes
+
+pub whole : (s : List ℕ) → Bytes s → (start : List ℕ) → refitBy mostBitsOfAll s start ≡ refit s start
+unfolding refitBy refit
+whole s b start = fun-ext (λ room. by room (reading s) (λ l e. accepted-sound s b l e .in-range))
+  where
+    by : (room : ℕ) (m : Meaning) → ((l : Line) → m ≡ accepted l → LineInRange l)
+        → onLine m (λ T budget. refitUpTo mostBitsOfAll T budget start room) ≡ onLine m (λ T budget. refitOn T budget start room)
+    by room (refused q) f = refl
+    by room (accepted l) f =
+        let I = f l refl in
+        whole-refit (tones l) (line-rising l I) (limits-high l I) (l .budget) (no-bits-fit l I (l .budget)) start room
+
+pub single : (s start : List ℕ) → refitBy 1 s start ≡ oneStep s start
+unfolding refitBy oneStep
+single s start = fun-ext (λ room. by room (reading s))
+  where
+    by : (room : ℕ) (m : Meaning) → onLine m (λ T budget. refitUpTo 1 T budget start room) ≡ onLine m (λ T budget. stepOn T budget start room)
+    by room (refused q) = refl
+    by room (accepted l) = single-step (tones l) (l .budget) start room

@@ -13,58 +13,50 @@ use Rattle.steps.specs.Tones.{Table, _!_, noBits, KeepsLimits, KeepsBudget}
 use Rattle.steps.specs.Runs.{mostBits, refitRun, setBits}
 use Rattle.steps.specs.Claims.{SetBits}
 use Rattle.steps.proofs.Sums.{sum-eq}
-use Rattle.line.specs.declared.Slot.{Slot}
-use Rattle.line.specs.declared.Slot.the-variants.{Undescribed, Described}
-use Rattle.line.specs.declared.Line.{Line}
 use Rattle.line.specs.Tone.{cost}
-use Rattle.line.specs.Line.{blank, limitOf, powerOf, tones, LineInRange}
+use Rattle.line.specs.Line.{Entry, undescribed, described, Line, entryOf, entryLimit, entryPower, tones, LineInRange}
 use Rattle.line.proofs.Growth.{power-zero}
-use Rattle.line.proofs.Loads.{line-demand-3, line-set-bits}
+use Rattle.line.proofs.Loads.{line-demand-3, line-set-bits, no-bits-keep}
 use Rattle.line.proofs.Masks.{within-mask, power-high}
-use Rattle.starts.proofs.Stands.{no-bits-stand}
 use Rattle.tables.specs.Tables.{tableBytes}
 use Rattle.tables.proofs.Places.{bits-stand, power-stands}
 use Rattle.sheet.specs.Reading.{accepted, reading}
-use Rattle.sheet.proofs.Sound.{Bytes}
-use Rattle.sheet.proofs.Accepted.{accepted-sound}
-use Rattle.loader.specs.Claims.{powerAt, Nothing, Respects}
+use Rattle.sheet.proofs.Sound.{Bytes, accepted-sound}
+use Rattle.loader.specs.Claims.{writtenPower, Nothing, Respects}
 
 -- no bits on a tone that is silenced or not described, and so no power
-limit-silenced : (g : ℕ) (s : Slot) {q : Bool} → q ≡ true → limitOf g s q ≡ 0
-limit-silenced g s e = rw e refl
+limit-silenced : (g : ℕ) (e : Entry) {q : Bool} → q ≡ true → entryLimit g e q ≡ 0
+limit-silenced g e h = rw h refl
 
-limit-undescribed : (g : ℕ) {s : Slot} (q : Bool) → s ≡ Undescribed → limitOf g s q ≡ 0
-limit-undescribed g true e = refl
-limit-undescribed g false e = rw e refl
+limit-undescribed : (g : ℕ) {e : Entry} (q : Bool) → e ≡ undescribed → entryLimit g e q ≡ 0
+limit-undescribed g true h = refl
+limit-undescribed g false h = rw h refl
 
-no-power : (g : ℕ) (s : Slot) → powerOf g s 0 ≡ 0
-no-power g Undescribed = refl
-no-power g (Described t) = power-zero t (cost g t)
+no-power : (g : ℕ) (e : Entry) → entryPower g e 0 ≡ 0
+no-power g undescribed = refl
+no-power g (described t) = power-zero t (cost g t)
 
 pub respects : (l : Line) → LineInRange l → (t : Table) → KeepsLimits (tones l) t → KeepsBudget (tones l) (l .budget) t → Respects l t
 respects l I t w fits = record {
   bits-at = bits;
   power-at = power;
-  masks = λ i il. rw (power i il) (within-mask (l .gap) (slot i) (silenced (l .maps) i) (t ! i) (w .under i il));
-  budget = omega (arith, fits, sum-eq (l .size) (powerAt l t) (λ i. tones l .power i (t ! i)) power);
-  silenced-tones = λ i il e. nothing i il (limit-silenced (l .gap) (slot i) e);
+  masks = λ i il. rw (power i il) (within-mask (l .gap) (entryOf l i) (silenced (l .maps) i) (t ! i) (w .under i il));
+  budget = omega (arith, fits, sum-eq (l .size) (writtenPower l t) (λ i. tones l .power i (t ! i)) power);
+  silenced-tones = λ i il e. nothing i il (limit-silenced (l .gap) (entryOf l i) e);
   other-tones = λ i il e. nothing i il (limit-undescribed (l .gap) (silenced (l .maps) i) e);
 }
   where
-    slot : ℕ → Slot
-    slot i = getD (l .entries) i blank .slot
-
     bits : (i : ℕ) → i < l .size → getD (tableBytes (tones l) t) (9 * i) 0 ≡ t ! i
     bits = bits-stand (tones l) t (l .size)
 
-    power : (i : ℕ) → i < l .size → powerAt l t i ≡ tones l .power i (t ! i)
+    power : (i : ℕ) → i < l .size → writtenPower l t i ≡ tones l .power i (t ! i)
     power i il =
         power-stands (tones l) t (l .size) i il (omega (arith, power-high l I i (t ! i) il (w .under i il)))
 
     nothing : (i : ℕ) → i < l .size → tones l .limit i ≡ 0 → Nothing l t i
     nothing i il z =
         let n : t ! i ≡ 0 = omega (arith, w .under i il) in
-        (bits i il ∙ n, power i il ∙ ap (tones l .power i) n ∙ no-power (l .gap) (getD (l .entries) i blank .slot))
+        (bits i il ∙ n, power i il ∙ ap (tones l .power i) n ∙ no-power (l .gap) (entryOf l i))
 
 module _ (sheet : List ℕ) (b : Bytes sheet) (l : Line) (e : reading sheet ≡ accepted l) where
   ready : LineInRange l
@@ -77,7 +69,7 @@ module _ (sheet : List ℕ) (b : Bytes sheet) (l : Line) (e : reading sheet ≡ 
 
   pub most-respects : Respects l (mostBits (tones l) (l .budget) .table)
   most-respects =
-      let w : KeepsLimits (tones l) (noBits (tones l)) = no-bits-stand l ready .within in
+      let w : KeepsLimits (tones l) (noBits (tones l)) = no-bits-keep l ready in
       subst (Respects l) (line-demand-3 l ready (noBits (tones l)) w .same-table) (refit-respects (noBits (tones l)) w)
 
   pub target-respects : (target : ℕ) {t : Table} → setBits (tones l) (l .budget) target ≡ some t → Respects l t

@@ -1,55 +1,95 @@
--- What is proved of the loading calls: demand 3 on bytes, and what the technician checks every morning.
+-- What is promised of the calls besides their outcomes: demand 3 of the bytes and totals at exit, most bits, least power at a set number of
+-- bits, the tidy form; and what the technician checks every morning.
 -- Assumes nothing.
 use mathlib.Core.Bool.{true}
 use mathlib.Core.List.{List}
 use mathlib.Core.Path.{_≡_}
 use Prim.Native.Nat.{ℕ, _+_, _*_, _≤_, _<_}
-use lib.ListN.{getD}
+use lib.ListN.{length, getD, take}
+use Rattle.sizes.specs.Sizes.{bytesATone}
 use Rattle.bigendian.specs.Number.{number}
-use Rattle.steps.specs.Tones.{Table, _!_, sum, KeepsLimits}
-use Rattle.steps.specs.Runs.{mostBits, refitRun}
-use Rattle.steps.specs.Claims.{Demand3}
 use Rattle.silence.specs.Map.{silenced}
-use Rattle.line.specs.declared.Slot.the-variants.{Undescribed}
-use Rattle.line.specs.declared.Line.{Line}
-use Rattle.line.specs.Line.{blank, maskOf, tones}
+use Rattle.steps.specs.Tones.{Tones, Table, _!_, sum, noBits, totalBits, totalPower, KeepsLimits, KeepsBudget}
+use Rattle.steps.specs.Runs.{addStep, mostBits, refitRun, setBits}
+use Rattle.steps.specs.Claims.{Best, Moves, Demand3, SetBits}
+use Rattle.line.specs.Line.{undescribed, Line, entryOf, entryMask, tones}
 use Rattle.tables.specs.Tables.{tableBytes}
-use Rattle.lineloads.specs.Loads.{loaded, loadOutcome, afterLoading}
+use Rattle.loadings.specs.declared.Loaded.{Loaded}
+use Rattle.loadings.specs.declared.Loaded.the-variants as load
+use Rattle.loadings.specs.declared.Refitted.{Refitted}
+use Rattle.loadings.specs.declared.Refitted.the-variants as re-fit
+use Rattle.loadings.specs.Loads.{onTarget, loadAnswer, afterLoading}
 use Rattle.sheet.specs.Reading.{accepted, reading}
+use Rattle.tidyform.specs.Tidy.{tidy}
+use Rattle.tidyform.specs.Claims.{TidyKeeps}
 use Rattle.loader.specs.Calls.{loadMost, refit}
 
--- Demand 3 of the two calls, on one accepted sheet and one starting table that keeps its limits, into buffers with room enough:
--- the same table and powers byte for byte, the same total bits and total power, and all that `Demand3` of crate steps says of the runs:
--- within limits and budget, best, and the count is of the rule's own moves, at most the sum of the limits.
-pub record SameLoading (sheet start : List ℕ) (l : Line) (room room′ : ℕ) : Type 0 where
-  pub most-bits : loadMost sheet room ≡ loaded l (mostBits (tones l) (l .budget))
-  pub re-fit : refit sheet start room′ ≡ loaded l (refitRun (tones l) (l .budget) start)
-  pub same-bytes : (old : List ℕ) → afterLoading (refit sheet start room′) old ≡ afterLoading (loadMost sheet room) old
-  pub same-totals : loadOutcome (refit sheet start room′) ≡ loadOutcome (loadMost sheet room)
+-- what holds of every accepted sheet whose table has room
+abbrev pub Loads : (sheet old : List ℕ) → (Line → Type 0) → Type 0
+Loads sheet old P = (l : Line) → reading sheet ≡ accepted l → bytesATone * l .size ≤ length old → P l
+
+-- The loading for most bits: the table that adding from nothing ends in, with its totals; it is within limits and budget, and no other
+-- table within them carries more bits, or as many for less power.
+pub record MostBits (T : Tones) (budget : ℕ) (r : Loaded) (old new : List ℕ) : Type 0 where
+  pub answers : r ≡ load.Totals (totalBits T (mostBits T budget .table)) (totalPower T (mostBits T budget .table))
+  pub front : take (bytesATone * T .count) new ≡ tableBytes T (mostBits T budget .table)
+  pub limits : KeepsLimits T (mostBits T budget .table)
+  pub budget-kept : KeepsBudget T budget (mostBits T budget .table)
+  pub best : Best T budget (mostBits T budget .table)
+  pub added : Moves (addStep T budget) (mostBits T budget .moves) (noBits T) (mostBits T budget .table)
+
+abbrev pub MostBitsOn : (sheet : List ℕ) → Loaded → (old new : List ℕ) → Type 0
+MostBitsOn sheet r old new = Loads sheet old (λ l. MostBits (tones l) (l .budget) r old new)
+
+-- Demand 3 of the re-fit's own answer and buffer, on one accepted sheet and one starting table that keeps its limits: the bytes and the
+-- totals at exit are those of the loading for most bits, the count is of the rule's own moves, and all that `Demand3` of crate steps says
+-- of the two runs.
+pub record SameLoading (sheet start : List ℕ) (l : Line) (r : Refitted) (old new : List ℕ) : Type 0 where
+  pub same-bytes : new ≡ afterLoading (loadMost sheet (length old)) old
+  pub same-totals : loadAnswer (refit sheet start (length old)) ≡ loadAnswer (loadMost sheet (length old))
+  pub answers : r ≡ re-fit.Totals (totalBits (tones l) (mostBits (tones l) (l .budget) .table)) (totalPower (tones l) (mostBits (tones l) (l .budget) .table)) (refitRun (tones l) (l .budget) start .moves)
   pub runs : Demand3 (tones l) (l .budget) start
 
--- It holds wherever the sheet is accepted, the starting table keeps its limits and there is room for the table.
-abbrev pub Demand3On : (sheet start : List ℕ) → (room : ℕ) → Type 0
-Demand3On sheet start room = (l : Line) → reading sheet ≡ accepted l → KeepsLimits (tones l) start → 9 * l .size ≤ room → SameLoading sheet start l room room
+abbrev pub Demand3On : (sheet start : List ℕ) → Refitted → (old new : List ℕ) → Type 0
+Demand3On sheet start r old new = Loads sheet old (λ l. KeepsLimits (tones l) start → SameLoading sheet start l r old new)
+
+-- A set number of bits: the table that carries the target for the least power of all tables within the limits, or refusal 11 exactly where
+-- no table within limits and budget carries it.
+pub record TargetMet (T : Tones) (budget target : ℕ) (r : Loaded) : Type 0 where
+  pub answers : r ≡ loadAnswer (onTarget T (setBits T budget target))
+  pub carries : SetBits T budget target (setBits T budget target)
+
+abbrev pub TargetOn : (sheet : List ℕ) → (target : ℕ) → Loaded → (old : List ℕ) → Type 0
+TargetOn sheet target r old = Loads sheet old (λ l. TargetMet (tones l) (l .budget) target r)
+
+-- Tidying: what was written reads as the same line and tidies to itself.
+pub record WritesTidy (sheet : List ℕ) (l : Line) (new : List ℕ) : Type 0 where
+  pub front : take (length (tidy l)) new ≡ tidy l
+  pub keeps : TidyKeeps sheet l
+
+abbrev pub TidyOn : (sheet old new : List ℕ) → Type 0
+TidyOn sheet old new = (l : Line) → reading sheet ≡ accepted l → length (tidy l) ≤ length old → WritesTidy sheet l new
+
+-- ---- the written bytes
 
 -- the mask of tone i, 0 where none is described
 abbrev pub maskAt : Line → (i : ℕ) → ℕ
-maskAt l i = maskOf (getD (l .entries) i blank .slot)
+maskAt l i = entryMask (entryOf l i)
 
 -- the power of tone i as it is written, and that it carries neither bits nor power
-abbrev pub powerAt : Line → Table → (i : ℕ) → ℕ
-powerAt l t i = number (tableBytes (tones l) t) (9 * i + 1) 8
+abbrev pub writtenPower : Line → Table → (i : ℕ) → ℕ
+writtenPower l t i = number (tableBytes (tones l) t) (bytesATone * i + 1) 8
 
 abbrev pub Nothing : Line → Table → (i : ℕ) → Type 0
-Nothing l t i = (getD (tableBytes (tones l) t) (9 * i) 0 ≡ 0) × (powerAt l t i ≡ 0)
+Nothing l t i = (getD (tableBytes (tones l) t) (bytesATone * i) 0 ≡ 0) × (writtenPower l t i ≡ 0)
 
 -- A table that keeps limits and budget, as its written bytes have it: tone i's bits stand at 9 × i and its power in the 8 bytes after.
 pub record Respects (l : Line) (t : Table) : Type 0 where
-  pub bits-at : (i : ℕ) → i < l .size → getD (tableBytes (tones l) t) (9 * i) 0 ≡ t ! i
-  pub power-at : (i : ℕ) → i < l .size → powerAt l t i ≡ tones l .power i (t ! i)
+  pub bits-at : (i : ℕ) → i < l .size → getD (tableBytes (tones l) t) (bytesATone * i) 0 ≡ t ! i
+  pub power-at : (i : ℕ) → i < l .size → writtenPower l t i ≡ tones l .power i (t ! i)
   -- every power is at most its tone's mask, and the powers add up to at most the budget
-  pub masks : (i : ℕ) → i < l .size → powerAt l t i ≤ maskAt l i
-  pub budget : sum (l .size) (powerAt l t) ≤ l .budget
+  pub masks : (i : ℕ) → i < l .size → writtenPower l t i ≤ maskAt l i
+  pub budget : sum (l .size) (writtenPower l t) ≤ l .budget
   -- a silenced tone, and one not described, carries nothing
   pub silenced-tones : (i : ℕ) → i < l .size → silenced (l .maps) i ≡ true → Nothing l t i
-  pub other-tones : (i : ℕ) → i < l .size → getD (l .entries) i blank .slot ≡ Undescribed → Nothing l t i
+  pub other-tones : (i : ℕ) → i < l .size → entryOf l i ≡ undescribed → Nothing l t i

@@ -1,90 +1,129 @@
 // The library: every public call, on bytes. Document 01.
 ghost use mathlib.Core.Path.{_≡_};
 ghost use lib.ListN.{length};
-ghost use Rattle.lineloads.specs.Loads.{loadAnswer, loadNumbers, loadOutcome, afterLoading};
-ghost use Rattle.lineloads.specs.Refits.{refitAnswer, refitNumbers, refitOutcome};
+ghost use Rattle.lists.specs.Lent.{before, after};
+ghost use Rattle.loadings.specs.Loads.{loadAnswer, loadNumbers, loadOutcome, afterLoading};
+ghost use Rattle.loadings.specs.Refits.{refitAnswer, refitNumbers, refitOutcome, RefitsAs};
 ghost use Rattle.sheet.specs.Reading.{reading};
 ghost use Rattle.sheet.specs.Check.{checking, checkNumbers, checkOutcome};
 ghost use Rattle.tidy.specs.Tidying.{tidying, tidyNumbers, tidyOutcome, afterTidying};
-ghost use Rattle.loader.specs.Calls.{loadMost, loadTarget, refit, oneStep};
-ghost use Rattle.loader.specs.Claims.{Demand3On};
-use lineloads::Loaded;
-use lineloads::Refitted;
-use sheet::Answer;
+ghost use Rattle.loader.specs.Calls.{loadMost, loadTarget, refit, oneStep, refitBy};
+ghost use Rattle.loader.specs.Claims.{MostBitsOn, TargetOn, Demand3On, TidyOn};
+use loadings::Loaded;
+use loadings::Refitted;
 use sheet::Checked;
+use sheet::Read;
+use sizes::MOST_BITS;
+use sizes::TONES;
 use tidy::Tidied;
 
 // Checks a sheet: N, the number of described tones and the number of silenced tones.
 pub fn check(s: &[u8]) -> Checked
-    ensures answer { λ r. ⌜ r ≡ checking (reading (now (s .entry))) ⌝ }
-    ensures numbers { λ r. ⌜ checkNumbers r ≡ checkOutcome (reading (now (s .entry))) ⌝ }
+    ensures answer { λ r. ⌜ r ≡ checking (reading (before s)) ⌝ }
+    ensures numbers { λ r. ⌜ checkNumbers r ≡ checkOutcome (reading (before s)) ⌝ }
 {
     sheet::check(s)
 }
 
 // Loads a sheet for most bits.
 pub fn load_most(s: &[u8], table: &mut [u8]) -> Loaded
-    ensures answer { λ r. ⌜ r ≡ loadAnswer (loadMost (now (s .entry)) (length (now (table .entry)))) ⌝ }
-    ensures numbers { λ r. ⌜ loadNumbers r ≡ loadOutcome (loadMost (now (s .entry)) (length (now (table .entry)))) ⌝ }
-    ensures bytes { λ r. ⌜ now (table .exit) ≡ afterLoading (loadMost (now (s .entry)) (length (now (table .entry)))) (now (table .entry)) ⌝ }
+    ensures answer { λ r. ⌜ r ≡ loadAnswer (loadMost (before s) (length (before table))) ⌝ }
+    ensures numbers { λ r. ⌜ loadNumbers r ≡ loadOutcome (loadMost (before s) (length (before table))) ⌝ }
+    ensures bytes { λ r. ⌜ after table ≡ afterLoading (loadMost (before s) (length (before table))) (before table) ⌝ }
+    ensures most_bits { λ r. ⌜ MostBitsOn (before s) r (before table) (after table) ⌝ }
 {
-    let sheet = sheet::read_sheet(s);
-    let answer = sheet.answer;
-    match answer {
-        Answer::Refused(refusal) => Loaded::Refused(refusal),
-        Answer::Accepted => lineloads::most(sheet.line, table),
+    let mut limits: [u8; TONES] = [0; TONES];
+    let mut costs: [u32; TONES] = [0; TONES];
+    let mut doublings: [u8; TONES] = [0; TONES];
+    let read = arrays::read_tones(s, &mut limits, &mut costs, &mut doublings);
+    match read {
+        Read::Refused(refusal) => Loaded::Refused(refusal),
+        Read::Accepted(header) => loadings::most(
+            header.size,
+            header.budget,
+            &limits,
+            &costs,
+            &doublings,
+            table,
+        ),
     }
 }
 
 // Loads a set number of bits.
 pub fn load_target(s: &[u8], target: u32, table: &mut [u8]) -> Loaded
-    ensures answer { λ r. ⌜ r ≡ loadAnswer (loadTarget (now (s .entry)) target (length (now (table .entry)))) ⌝ }
-    ensures numbers { λ r. ⌜ loadNumbers r ≡ loadOutcome (loadTarget (now (s .entry)) target (length (now (table .entry)))) ⌝ }
-    ensures bytes { λ r. ⌜ now (table .exit) ≡ afterLoading (loadTarget (now (s .entry)) target (length (now (table .entry)))) (now (table .entry)) ⌝ }
+    ensures answer { λ r. ⌜ r ≡ loadAnswer (loadTarget (before s) target (length (before table))) ⌝ }
+    ensures numbers { λ r. ⌜ loadNumbers r ≡ loadOutcome (loadTarget (before s) target (length (before table))) ⌝ }
+    ensures bytes { λ r. ⌜ after table ≡ afterLoading (loadTarget (before s) target (length (before table))) (before table) ⌝ }
+    ensures least_power { λ r. ⌜ TargetOn (before s) target r (before table) ⌝ }
 {
-    let sheet = sheet::read_sheet(s);
-    let answer = sheet.answer;
-    match answer {
-        Answer::Refused(refusal) => Loaded::Refused(refusal),
-        Answer::Accepted => lineloads::target(sheet.line, target, table),
+    let mut limits: [u8; TONES] = [0; TONES];
+    let mut costs: [u32; TONES] = [0; TONES];
+    let mut doublings: [u8; TONES] = [0; TONES];
+    let read = arrays::read_tones(s, &mut limits, &mut costs, &mut doublings);
+    match read {
+        Read::Refused(refusal) => Loaded::Refused(refusal),
+        Read::Accepted(header) => loadings::target(
+            header.size,
+            header.budget,
+            &limits,
+            &costs,
+            &doublings,
+            target,
+            table,
+        ),
+    }
+}
+
+// Re-fits a starting table by at most so many moves.
+fn refit_up_to(s: &[u8], start: &[u8], most: u32, table: &mut [u8]) -> Refitted
+    ensures { λ r. ⌜ RefitsAs r (before table) (after table) (refitBy most (before s) (before start)) ⌝ }
+{
+    let mut limits: [u8; TONES] = [0; TONES];
+    let mut costs: [u32; TONES] = [0; TONES];
+    let mut doublings: [u8; TONES] = [0; TONES];
+    let read = arrays::read_tones(s, &mut limits, &mut costs, &mut doublings);
+    match read {
+        Read::Refused(refusal) => Refitted::Refused(refusal),
+        Read::Accepted(header) => loadings::refit(
+            header.size,
+            header.budget,
+            &limits,
+            &costs,
+            &doublings,
+            start,
+            most,
+            table,
+        ),
     }
 }
 
 // Re-fits a starting table, and counts the moves. Demand 3 is its last promise: of every accepted sheet and every starting table
-// that keeps its limits, with room enough, the table and the totals are those of the loading for most bits. 3,840 moves are enough.
+// that keeps its limits, with room enough, the table and the totals are those of the loading for most bits. As many moves as a line can
+// have bits are enough.
 pub fn refit(s: &[u8], start: &[u8], table: &mut [u8]) -> Refitted
-    ensures answer { λ r. ⌜ r ≡ refitAnswer (refit (now (s .entry)) (now (start .entry)) (length (now (table .entry)))) ⌝ }
-    ensures numbers { λ r. ⌜ refitNumbers r ≡ refitOutcome (refit (now (s .entry)) (now (start .entry)) (length (now (table .entry)))) ⌝ }
-    ensures bytes { λ r. ⌜ now (table .exit) ≡ afterLoading (refit (now (s .entry)) (now (start .entry)) (length (now (table .entry)))) (now (table .entry)) ⌝ }
-    ensures demand_3 { λ r. ⌜ Demand3On (now (s .entry)) (now (start .entry)) (length (now (table .entry))) ⌝ }
+    ensures answer { λ r. ⌜ r ≡ refitAnswer (refit (before s) (before start) (length (before table))) ⌝ }
+    ensures numbers { λ r. ⌜ refitNumbers r ≡ refitOutcome (refit (before s) (before start) (length (before table))) ⌝ }
+    ensures bytes { λ r. ⌜ after table ≡ afterLoading (refit (before s) (before start) (length (before table))) (before table) ⌝ }
+    ensures demand_3 { λ r. ⌜ Demand3On (before s) (before start) r (before table) (after table) ⌝ }
 {
-    let sheet = sheet::read_sheet(s);
-    let answer = sheet.answer;
-    match answer {
-        Answer::Refused(refusal) => Refitted::Refused(refusal),
-        Answer::Accepted => lineloads::refit(sheet.line, start, 3840, table),
-    }
+    refit_up_to(s, start, MOST_BITS, table)
 }
 
 // One step of a re-fit: its move count is 1 or 0.
 pub fn refit_step(s: &[u8], start: &[u8], table: &mut [u8]) -> Refitted
-    ensures answer { λ r. ⌜ r ≡ refitAnswer (oneStep (now (s .entry)) (now (start .entry)) (length (now (table .entry)))) ⌝ }
-    ensures numbers { λ r. ⌜ refitNumbers r ≡ refitOutcome (oneStep (now (s .entry)) (now (start .entry)) (length (now (table .entry)))) ⌝ }
-    ensures bytes { λ r. ⌜ now (table .exit) ≡ afterLoading (oneStep (now (s .entry)) (now (start .entry)) (length (now (table .entry)))) (now (table .entry)) ⌝ }
+    ensures answer { λ r. ⌜ r ≡ refitAnswer (oneStep (before s) (before start) (length (before table))) ⌝ }
+    ensures numbers { λ r. ⌜ refitNumbers r ≡ refitOutcome (oneStep (before s) (before start) (length (before table))) ⌝ }
+    ensures bytes { λ r. ⌜ after table ≡ afterLoading (oneStep (before s) (before start) (length (before table))) (before table) ⌝ }
 {
-    let sheet = sheet::read_sheet(s);
-    let answer = sheet.answer;
-    match answer {
-        Answer::Refused(refusal) => Refitted::Refused(refusal),
-        Answer::Accepted => lineloads::refit(sheet.line, start, 1, table),
-    }
+    refit_up_to(s, start, 1, table)
 }
 
 // Writes the tidy form of a sheet.
 pub fn tidy(s: &[u8], out: &mut [u8]) -> Tidied
-    ensures answer { λ r. ⌜ r ≡ tidying (reading (now (s .entry))) (length (now (out .entry))) ⌝ }
-    ensures numbers { λ r. ⌜ tidyNumbers r ≡ tidyOutcome (reading (now (s .entry))) (length (now (out .entry))) ⌝ }
-    ensures bytes { λ r. ⌜ now (out .exit) ≡ afterTidying (reading (now (s .entry))) (now (out .entry)) ⌝ }
+    ensures answer { λ r. ⌜ r ≡ tidying (reading (before s)) (length (before out)) ⌝ }
+    ensures numbers { λ r. ⌜ tidyNumbers r ≡ tidyOutcome (reading (before s)) (length (before out)) ⌝ }
+    ensures bytes { λ r. ⌜ after out ≡ afterTidying (reading (before s)) (before out) ⌝ }
+    ensures tidy_form { λ r. ⌜ TidyOn (before s) (before out) (after out) ⌝ }
 {
     tidy::tidy(s, out)
 }

@@ -1,12 +1,11 @@
 // The one move that a rule names. Document 01, 'The loading runs'.
-ghost use mathlib.Core.List.{List};
 ghost use mathlib.Core.Path.{_≡_};
-ghost use Prim.Native.Nat.{ℕ, _^_, _≤_, _<_};
+ghost use Prim.Native.Nat.{_^_, _<_};
 ghost use Rattle.steps.specs.Tones.{Tones, Table};
-ghost use Rattle.steps.specs.Runs.{earliestFree, latestHeld, takeIfFits, refitMove};
-ghost use Rattle.line.specs.Line.{ArraysInRange};
-ghost use Rattle.ranks.specs.Ranks.{NoneFrom, Ranks};
-ghost use Rattle.moves.specs.Moves.{ruleOf, stepAt, StandsFor, Knows, Names};
+ghost use Rattle.steps.specs.Runs.{earliestFree, takeIfFits, refitStep};
+ghost use Rattle.moves.specs.declared.Rule.the-variants.{Add, Refit};
+ghost use Rattle.moves.specs.Moves.{ruleOf, stepAt, Knows, CallsFor};
+use ranks::RANK_BASE;
 
 // Adding takes the earliest free step; re-fitting exchanges, gives up or takes.
 pub enum Rule {
@@ -33,15 +32,15 @@ fn step_at(rank: u64) -> Step
     ensures { λ r. ⌜ r ≡ stepAt rank ⌝ }
 {
     Step {
-        tone: (rank % 256) as usize,
-        size: rank / 256,
+        tone: (rank % RANK_BASE) as usize,
+        size: rank / RANK_BASE,
     }
 }
 
 // Takes the earliest free step if there is one and it fits the budget.
 fn take_if_fits(earliest: u64, power: u64, budget: u64) -> Move
     requires { ⌜ power < 2 ^ 63 ⌝ }
-    ensures { λ r. ⌜ ((T : Tones) (t : Table) (latest : ℕ) → Knows T t power earliest latest → Names T t r (takeIfFits T budget t (earliestFree T t))) ⌝ }
+    ensures { λ r. ⌜ ((T : Tones) (t : Table) → Knows Add T t power earliest 0 → CallsFor T t r (takeIfFits T budget t (earliestFree T t))) ⌝ }
 {
     if earliest == u64::MAX {
         return Move::Nothing;
@@ -55,9 +54,9 @@ fn take_if_fits(earliest: u64, power: u64, budget: u64) -> Move
 
 // Exchanges the latest held step for the earliest free one if that comes before it; otherwise, above the budget, gives up the latest
 // held one; otherwise takes the earliest free one if it fits. With no held step the rank of the latest is 0.
-fn refit_move(latest: u64, earliest: u64, power: u64, budget: u64) -> Move
+fn refit_move(earliest: u64, latest: u64, power: u64, budget: u64) -> Move
     requires { ⌜ power < 2 ^ 63 ⌝ }
-    ensures { λ r. ⌜ ((T : Tones) (t : Table) → Knows T t power earliest latest → Names T t r (refitMove T budget t (latestHeld T t) (earliestFree T t))) ⌝ }
+    ensures { λ r. ⌜ ((T : Tones) (t : Table) → Knows Refit T t power earliest latest → CallsFor T t r (refitStep T budget t)) ⌝ }
 {
     if latest == 0 {
         return take_if_fits(earliest, power, budget);
@@ -71,24 +70,14 @@ fn refit_move(latest: u64, earliest: u64, power: u64, budget: u64) -> Move
     take_if_fits(earliest, power, budget)
 }
 
-// The move that a rule names for a table of this total power, by the ranks that are kept of its tones.
-pub fn next_move(
-    rule: Rule,
-    power: u64,
-    budget: u64,
-    count: usize,
-    free: &[u64; 256],
-    held: &[u64; 256],
-) -> Move
-    requires { ⌜ (power < 2 ^ 63) × (count ≤ 256) × NoneFrom count (now free) × NoneFrom count (now held) ⌝ }
-    ensures { λ r. ⌜ ((limits costs doublings bits : List ℕ) → ArraysInRange count limits costs doublings → Ranks count limits costs doublings bits (now (free .entry)) (now (held .entry)) → (T : Tones) (t : Table) → StandsFor count limits costs doublings bits power T t → Names T t r (ruleOf rule T budget t)) ⌝ }
+// The move that a rule names for a table of this total power, whose earliest free and latest held step have these ranks. Adding goes by
+// the earliest alone.
+pub fn next_move(rule: Rule, earliest: u64, latest: u64, power: u64, budget: u64) -> Move
+    requires { ⌜ power < 2 ^ 63 ⌝ }
+    ensures { λ r. ⌜ ((T : Tones) (t : Table) → Knows rule T t power earliest latest → CallsFor T t r (ruleOf rule T budget t)) ⌝ }
 {
-    let earliest = search::earliest_free(count, free);
     match rule {
         Rule::Add => take_if_fits(earliest, power, budget),
-        Rule::Refit => {
-            let latest = search::latest_held(count, held);
-            refit_move(latest, earliest, power, budget)
-        }
+        Rule::Refit => refit_move(earliest, latest, power, budget),
     }
 }

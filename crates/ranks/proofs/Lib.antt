@@ -1,3 +1,4 @@
-pub mod Kept
-pub mod Order
 pub mod Sizes
+pub mod Order
+pub mod Kept
+pub mod Found

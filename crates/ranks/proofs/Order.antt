@@ -3,10 +3,11 @@
 use Prim.Native.Nat.{ℕ, _<_}
 use native.Mathlib.Decide.{decLt}
 use native.Mathlib.Omega.{arith}
+use Rattle.sizes.specs.Sizes.{mostTones}
 use Rattle.steps.specs.Tones.{Tones, step, Before, by-size, by-tone}
 use Rattle.ranks.specs.Ranks.{rank}
 
-module _ (T : Tones) {i b j c : ℕ} (il : i < 256) (jl : j < 256) where
+module _ (T : Tones) {i b j c : ℕ} (il : i < mostTones) (jl : j < mostTones) where
   pub rank-before : rank (step T i b) i < rank (step T j c) j → Before T i b j c
   rank-before h = go (decLt (step T i b) (step T j c))
     where

@@ -1,34 +1,24 @@
--- Tones as arrays of numbers, for either kind: limits, costs, and by how many doublings a step grows from bit to bit; and the ranks of
--- their steps.
+-- The rank of a step in the order of all steps, the ranks that are kept of each tone in two arrays, and the least of them.
 -- Assumes nothing.
 use mathlib.Core.Bool.{cond}
 use mathlib.Core.List.{List}
+use mathlib.Core.Logic.{_≢_}
 use mathlib.Core.Option.{Option, none, some}
 use mathlib.Core.Path.{_≡_}
 use Prim.Native.Nat.{ℕ, _+_, _-_, _*_, _^_, _≤_, _<_}
 use lib.Dec.{ltb}
 use lib.ListN.{getD}
+use Rattle.sizes.specs.Sizes.{mostTones}
 use Rattle.steps.specs.Tones.{Tones, step, Table, _!_}
-use Rattle.line.specs.Line.{stepSize}
+use Rattle.line.specs.Arrays.{Arrays, limitAt, costAt, doublingsAt, stepSize}
 
--- the step of tone i at b bits, by the arrays
-abbrev pub stepIn : (costs doublings : List ℕ) → (i b : ℕ) → ℕ
-stepIn costs doublings i b = stepSize (getD costs i 0) (getD doublings i 0) b
+-- the base of a rank: above the number of every tone
+abbrev pub rankBase : ℕ
+rankBase = 256
 
--- no tone has more bits than its limit
-pub record Under (count : ℕ) (limits bits : List ℕ) : Type 0 where
-  pub under : (i : ℕ) → i < count → getD bits i 0 ≤ getD limits i 0
-
--- The arrays describe tones, and the bits a table of them: below the number of tones, and for steps below the limits, they agree.
-pub record Describes (count : ℕ) (limits costs doublings bits : List ℕ) (T : Tones) (t : Table) : Type 0 where
-  pub same-count : T .count ≡ count
-  pub same-limit : (i : ℕ) → i < count → T .limit i ≡ getD limits i 0
-  pub same-step : (i b : ℕ) → i < count → b < T .limit i → step T i b ≡ stepIn costs doublings i b
-  pub same-bits : (i : ℕ) → i < count → t ! i ≡ getD bits i 0
-
--- 'Steps are ordered by size, then by lower tone number': the rank of a step of this size, of one of 256 tones
+-- 'Steps are ordered by size, then by lower tone number': the rank of a step of this size of this tone
 abbrev pub rank : (size tone : ℕ) → ℕ
-rank size tone = size * 256 + tone
+rank size tone = size * rankBase + tone
 
 -- the largest number of 64 bits, which stands for 'no step'
 unfoldable pub noStep : ℕ
@@ -41,18 +31,39 @@ freeRank tone limit cost doublings bits = cond (ltb bits limit) (rank (stepSize 
 abbrev pub heldRank : (tone cost doublings bits : ℕ) → ℕ
 heldRank tone cost doublings bits = cond (ltb 0 bits) (noStep - rank (stepSize cost doublings (bits - 1)) tone) noStep
 
+-- the same of tone i of the arrays, at its bits
+abbrev pub freeRankAt : Arrays → (bits : List ℕ) → (i : ℕ) → ℕ
+freeRankAt A bits i = freeRank i (limitAt A i) (costAt A i) (doublingsAt A i) (getD bits i 0)
+
+abbrev pub heldRankAt : Arrays → (bits : List ℕ) → (i : ℕ) → ℕ
+heldRankAt A bits i = heldRank i (costAt A i) (doublingsAt A i) (getD bits i 0)
+
 -- from tone n on there is no step
 pub record NoneFrom (n : ℕ) (ranks : List ℕ) : Type 0 where
-  pub none-from : (i : ℕ) → n ≤ i → i < 256 → getD ranks i 0 ≡ noStep
+  pub none-from : (i : ℕ) → n ≤ i → i < mostTones → getD ranks i 0 ≡ noStep
+
+-- an array keeps these ranks of the tones below n, and from there on no step
+pub record Keeps (n : ℕ) (rankOf : ℕ → ℕ) (ranks : List ℕ) : Type 0 where
+  pub kept : (i : ℕ) → i < n → getD ranks i 0 ≡ rankOf i
+  pub past : NoneFrom n ranks
 
 -- The ranks kept of every tone's earliest free and latest held step are those of its present bits.
-pub record Ranks (count : ℕ) (limits costs doublings bits free held : List ℕ) : Type 0 where
-  pub free-at : (i : ℕ) → i < count → getD free i 0 ≡ freeRank i (getD limits i 0) (getD costs i 0) (getD doublings i 0) (getD bits i 0)
-  pub held-at : (i : ℕ) → i < count → getD held i 0 ≡ heldRank i (getD costs i 0) (getD doublings i 0) (getD bits i 0)
-  pub free-past : NoneFrom count free
-  pub held-past : NoneFrom count held
+pub record Ranked (count : ℕ) (A : Arrays) (bits free held : List ℕ) : Type 0 where
+  pub free-ranks : Keeps count (freeRankAt A bits) free
+  pub held-ranks : Keeps count (heldRankAt A bits) held
 
--- The rank of the step that a search of table t found: for no free step the largest number, for no held one 0.
+-- one of the first n ranks
+pub record Among (n : ℕ) (ranks : List ℕ) (r : ℕ) : Type 0 where
+  pub tone : ℕ
+  pub inside : tone < n
+  pub there : r ≡ getD ranks tone 0
+
+-- What a search promises: the least of the first n ranks, or the largest number where none of them is a step's.
+pub record LeastOf (n : ℕ) (ranks : List ℕ) (r : ℕ) : Type 0 where
+  pub low : (i : ℕ) → i < n → r ≤ getD ranks i 0
+  pub among : r ≢ noStep → Among n ranks r
+
+-- The rank of the step that a rule's own search of table t finds: for no free step the largest number, for no held one 0.
 abbrev pub rankFree : Tones → Table → Option ℕ → ℕ
 rankFree T t none = noStep
 rankFree T t (some f) = rank (step T f (t ! f)) f

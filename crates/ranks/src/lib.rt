@@ -1,37 +1,49 @@
-// The rank of a step in the order of all steps: its size × 256, and the tone's number. So steps are ordered 'by size, then by lower tone
-// number', and one comparison tells which of two comes first. Document 01, 'Cost, power and limit of a tone'.
+// The rank of a step in the order of all steps: its size × the base of a rank, and the tone's number. So steps are ordered 'by size, then
+// by lower tone number', and one comparison tells which of two comes first. Document 01, 'Cost, power and limit of a tone'.
 ghost use mathlib.Core.Path.{_≡_};
 ghost use Prim.Native.Nat.{suc, _*_, _^_, _≤_, _<_};
-ghost use lib.ListN.{length, getD, set};
-ghost use Rattle.line.specs.Line.{ArraysInRange, stepSize};
-ghost use Rattle.ranks.specs.Ranks.{Under, freeRank, heldRank, NoneFrom, Ranks};
+ghost use lib.ListN.{length, set};
+ghost use Rattle.sizes.specs.Sizes.{mostTones};
+ghost use Rattle.lists.specs.Lent.{before, after};
+ghost use Rattle.line.specs.Arrays.{arrays, arraysBefore, ArraysInRange, Under, stepSize};
+ghost use Rattle.ranks.specs.Ranks.{freeRank, heldRank, NoneFrom, Ranked};
+use sizes::TONES;
+
+// The base of a rank: above the number of every tone.
+pub const RANK_BASE: u64 = 256;
 
 // The size of the step at a number of bits: the power of one bit more, less the power.
-fn step_size(cost: u64, doublings: u8, bits: u8) -> u64
-    requires { ⌜ (cost < 2 ^ 24) × (doublings * suc bits ≤ 15) × (bits < 255) ⌝ }
+fn step_size(cost: u32, doublings: u8, bits: u8) -> u64
+    requires { ⌜ cost < 2 ^ 24 ⌝ }
+    requires { ⌜ doublings * suc bits ≤ 15 ⌝ }
+    requires { ⌜ bits < 255 ⌝ }
     ensures { λ r. ⌜ r ≡ stepSize cost doublings bits ⌝ }
 {
     line::power_at(cost, doublings, bits + 1) - line::power_at(cost, doublings, bits)
 }
 
 // The rank of a tone's earliest free step; the largest number where none is free.
-fn free_rank(tone: usize, limit: u8, cost: u64, doublings: u8, bits: u8) -> u64
-    requires { ⌜ (tone < 256) × (cost < 2 ^ 24) × (doublings * limit ≤ 15) ⌝ }
+fn free_rank(tone: usize, limit: u8, cost: u32, doublings: u8, bits: u8) -> u64
+    requires { ⌜ tone < mostTones ⌝ }
+    requires { ⌜ cost < 2 ^ 24 ⌝ }
+    requires { ⌜ doublings * limit ≤ 15 ⌝ }
     ensures { λ r. ⌜ r ≡ freeRank tone limit cost doublings bits ⌝ }
 {
     if bits < limit {
-        return step_size(cost, doublings, bits) * 256 + tone as u64;
+        return step_size(cost, doublings, bits) * RANK_BASE + tone as u64;
     }
     u64::MAX
 }
 
 // The rank of a tone's latest held step, counted down from the largest number, which stands for none.
-fn held_rank(tone: usize, cost: u64, doublings: u8, bits: u8) -> u64
-    requires { ⌜ (tone < 256) × (cost < 2 ^ 24) × (doublings * bits ≤ 15) ⌝ }
+fn held_rank(tone: usize, cost: u32, doublings: u8, bits: u8) -> u64
+    requires { ⌜ tone < mostTones ⌝ }
+    requires { ⌜ cost < 2 ^ 24 ⌝ }
+    requires { ⌜ doublings * bits ≤ 15 ⌝ }
     ensures { λ r. ⌜ r ≡ heldRank tone cost doublings bits ⌝ }
 {
     if 0 < bits {
-        return u64::MAX - (step_size(cost, doublings, bits - 1) * 256 + tone as u64);
+        return u64::MAX - (step_size(cost, doublings, bits - 1) * RANK_BASE + tone as u64);
     }
     u64::MAX
 }
@@ -40,41 +52,47 @@ fn held_rank(tone: usize, cost: u64, doublings: u8, bits: u8) -> u64
 // has no other way to know how long a lent array is.
 pub fn put_ranks(
     tone: usize,
+    limit: u8,
+    cost: u32,
+    doublings: u8,
     bits: u8,
-    limits: &[u8; 256],
-    costs: &[u64; 256],
-    doublings: &[u8; 256],
-    free: &mut [u64; 256],
-    held: &mut [u64; 256],
+    free: &mut [u64; TONES],
+    held: &mut [u64; TONES],
 )
-    requires { ⌜ (tone < 256) × (getD (now costs) tone 0 < 2 ^ 24) × (getD (now doublings) tone 0 * getD (now limits) tone 0 ≤ 15) × (bits ≤ getD (now limits) tone 0) ⌝ }
-    ensures free { λ r. ⌜ now (free .exit) ≡ set (now (free .entry)) tone (freeRank tone (getD (now (limits .entry)) tone 0) (getD (now (costs .entry)) tone 0) (getD (now (doublings .entry)) tone 0) bits) ⌝ }
-    ensures held { λ r. ⌜ now (held .exit) ≡ set (now (held .entry)) tone (heldRank tone (getD (now (costs .entry)) tone 0) (getD (now (doublings .entry)) tone 0) bits) ⌝ }
-    ensures lengths { λ r. ⌜ (length (now (free .entry)) ≡ 256) × (length (now (held .entry)) ≡ 256) ⌝ }
+    requires { ⌜ tone < mostTones ⌝ }
+    requires { ⌜ cost < 2 ^ 24 ⌝ }
+    requires { ⌜ doublings * limit ≤ 15 ⌝ }
+    requires { ⌜ bits ≤ limit ⌝ }
+    ensures free { λ r. ⌜ after free ≡ set (before free) tone (freeRank tone limit cost doublings bits) ⌝ }
+    ensures held { λ r. ⌜ after held ≡ set (before held) tone (heldRank tone cost doublings bits) ⌝ }
+    ensures lengths { λ r. ⌜ (length (before free) ≡ mostTones) × (length (before held) ≡ mostTones) ⌝ }
 {
     // As slices: a slice's length is known to the proof.
     let frees: &mut [u64] = free;
     let helds: &mut [u64] = held;
-    frees[tone] = free_rank(tone, limits[tone], costs[tone], doublings[tone], bits);
-    helds[tone] = held_rank(tone, costs[tone], doublings[tone], bits);
+    frees[tone] = free_rank(tone, limit, cost, doublings, bits);
+    helds[tone] = held_rank(tone, cost, doublings, bits);
 }
 
 // The ranks of every tone of a table, in arrays that have none yet.
 pub fn fill_ranks(
     count: usize,
-    limits: &[u8; 256],
-    costs: &[u64; 256],
-    doublings: &[u8; 256],
-    bits: &[u8; 256],
-    free: &mut [u64; 256],
-    held: &mut [u64; 256],
+    limits: &[u8; TONES],
+    costs: &[u32; TONES],
+    doublings: &[u8; TONES],
+    bits: &[u8; TONES],
+    free: &mut [u64; TONES],
+    held: &mut [u64; TONES],
 )
-    requires { ⌜ ArraysInRange count (now limits) (now costs) (now doublings) × Under count (now limits) (now bits) × NoneFrom count (now free) × NoneFrom count (now held) ⌝ }
-    ensures { λ r. ⌜ Ranks count (now (limits .entry)) (now (costs .entry)) (now (doublings .entry)) (now (bits .entry)) (now (free .exit)) (now (held .exit)) ⌝ }
+    requires { ⌜ ArraysInRange count (arrays (now limits) (now costs) (now doublings)) ⌝ }
+    requires { ⌜ Under count (arrays (now limits) (now costs) (now doublings)) (now bits) ⌝ }
+    requires { ⌜ NoneFrom count (now free) ⌝ }
+    requires { ⌜ NoneFrom count (now held) ⌝ }
+    ensures { λ r. ⌜ Ranked count (arraysBefore limits costs doublings) (before bits) (after free) (after held) ⌝ }
 {
     let mut i: usize = 0;
     while i < count {
-        put_ranks(i, bits[i], limits, costs, doublings, free, held);
+        put_ranks(i, limits[i], costs[i], doublings[i], bits[i], free, held);
         i += 1;
     }
 }

@@ -13,14 +13,18 @@ use crate::printing::print_touched;
 use command::Refusal;
 use command::refusal_number;
 use command::refusal_place;
-use lineloads::Loaded;
-use lineloads::Refitted;
+use loadings::Loaded;
+use loadings::Refitted;
 use sampletext::ROOM;
 use sampletext::filled;
 use sampletext::same;
 use sampletext::wide;
 use sampletext::within;
 use sheet::Checked;
+use sizes::TONE_BYTES;
+
+// A table of more bytes than this, those of 32 tones, is printed as a sum.
+const PRINTED_BYTES: usize = 32 * TONE_BYTES;
 
 // A loading or a re-fit.
 pub(crate) enum Call {
@@ -89,7 +93,7 @@ fn made(call: Call, sheet: &[u8], start: &[u8], table: &mut [u8]) -> Totals {
 // How many bytes the table of a sheet takes; 0 for a sheet that is refused.
 fn table_bytes(sheet: &[u8]) -> usize {
     match loader::check(sheet) {
-        Checked::Counts(n, _, _) => 9 * n as usize,
+        Checked::Counts(n, _, _) => TONE_BYTES * n as usize,
         Checked::Refused(_) => 0,
     }
 }
@@ -110,12 +114,12 @@ fn print_totals(call: Call, t: Totals) {
 // The tones of a table, 9 bytes each, as bits:power with a blank before.
 fn print_tones(table: &[u8]) {
     let mut at = 0;
-    while 9 <= table.len() - at {
+    while TONE_BYTES <= table.len() - at {
         print(b" ");
         print_number(wide(table[at]));
         print(b":");
         print_number(bigendian::number_at(table, at + 1, 8));
-        at += 9;
+        at += TONE_BYTES;
     }
 }
 
@@ -135,7 +139,7 @@ fn sum(bytes: &[u8]) -> u64 {
 // Prints a table: each tone's bits and power, or for more than 32 tones a sum over its bytes.
 fn print_table(table: &[u8]) {
     print(b"table");
-    if table.len() <= 288 {
+    if table.len() <= PRINTED_BYTES {
         print_tones(table);
     } else {
         print_pair(b" length and sum ", table.len() as u64, sum(table));

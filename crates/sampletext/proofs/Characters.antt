@@ -1,4 +1,4 @@
--- The text from a place on, by the character that stands there: how `before` and `spelled` go on, and where they stop.
+-- The text from a place on, by the character that stands there: how `skipped` and `spelled` go on, and where they stop.
 -- Assumes nothing.
 use mathlib.Core.Bool.{true, false}
 use mathlib.Core.List.{List}
@@ -9,25 +9,25 @@ use borrow.Author.Tests.{lt-ltb, le-ltb}
 use lib.Dec.{eqb}
 use lib.ListN.{length, getD, drop, drop-of-length-le}
 use lib.Seq.{drop-cons}
-use Rattle.sampletext.specs.Text.{before, digitOf, spelled}
+use Rattle.sampletext.specs.Text.{skipped, digitOf, spelled}
 
 module _ (text : List ℕ) (i : ℕ) (past : length text ≤ i) where
-  pub before-end : (wanted : ℕ) → before (drop i text) wanted ≡ 0
-  unfolding before
-  before-end wanted = rw (drop-of-length-le text past)
+  pub skipped-end : (wanted : ℕ) → skipped (drop i text) wanted ≡ 0
+  unfolding skipped
+  skipped-end wanted = rw (drop-of-length-le text past)
 
   pub spelled-end : (value : ℕ) → spelled value (drop i text) ≡ value
   unfolding spelled
   spelled-end value = rw (drop-of-length-le text past)
 
 module _ (text : List ℕ) (i : ℕ) (inside : i < length text) where
-  pub before-found : (wanted : ℕ) → eqb (getD text i 0) wanted ≡ true → before (drop i text) wanted ≡ 0
-  unfolding before
-  before-found wanted found = rw (drop-cons text i 0 inside, found)
+  pub skipped-found : (wanted : ℕ) → eqb (getD text i 0) wanted ≡ true → skipped (drop i text) wanted ≡ 0
+  unfolding skipped
+  skipped-found wanted found = rw (drop-cons text i 0 inside, found)
 
-  pub before-next : (wanted : ℕ) → eqb (getD text i 0) wanted ≡ false → before (drop i text) wanted ≡ suc (before (drop (i + 1) text) wanted)
-  unfolding before
-  before-next wanted other = rw (add-one, drop-cons text i 0 inside, other)
+  pub skipped-next : (wanted : ℕ) → eqb (getD text i 0) wanted ≡ false → skipped (drop i text) wanted ≡ suc (skipped (drop (i + 1) text) wanted)
+  unfolding skipped
+  skipped-next wanted other = rw (add-one, drop-cons text i 0 inside, other)
 
   module _ (value : ℕ) {d : ℕ} (read : d ≡ digitOf (getD text i 0)) where
     pub spelled-other : 9 < d → spelled value (drop i text) ≡ value

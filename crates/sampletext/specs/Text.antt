@@ -6,10 +6,21 @@ use Prim.Native.Nat.{ℕ, suc, _+_, _*_, _-_, _<_}
 use lib.Dec.{leb, ltb, eqb}
 use lib.ListN.{getD}
 
+-- the bytes of a buffer for a sheet or a table, and of the one for the text
+abbrev pub room : ℕ
+room = 4200
+
+abbrev pub textRoom : ℕ
+textRoom = 131072
+
+-- what a buffer for a sheet or a table is filled with
+abbrev pub fill : ℕ
+fill = 0xa5
+
 -- how many characters stand before the first that is wanted: all of them where none is
-unfoldable pub before : List ℕ → (wanted : ℕ) → ℕ
-before [] wanted = 0
-before (c ∷ text) wanted = cond (eqb c wanted) 0 (suc (before text wanted))
+unfoldable pub skipped : List ℕ → (wanted : ℕ) → ℕ
+skipped [] wanted = 0
+skipped (c ∷ text) wanted = cond (eqb c wanted) 0 (suc (skipped text wanted))
 
 -- the value of a hex digit, `0` to `9` or `a` to `f`, and 16 for any other character
 unfoldable pub digitOf : ℕ → ℕ

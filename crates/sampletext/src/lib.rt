@@ -7,11 +7,14 @@ ghost use Prim.Native.Nat.{ℕ, _+_, _≤_, _<_, min, max};
 ghost use mathlib.Core.Bool.{true, false};
 ghost use mathlib.Core.Path.{_≡_};
 ghost use lib.ListN.{length, getD, drop};
+ghost use Rattle.lists.specs.Lent.{before, after};
 ghost use Rattle.io.specs.Counts.{Counts};
-ghost use Rattle.sampletext.specs.Text.{before, digitOf, spelled, SameBytes};
+ghost use Rattle.sampletext.specs.Text.{room, fill, textRoom, skipped, digitOf, spelled, SameBytes};
 
 // Room for a sheet, above the 4,096 bytes that a sheet may have.
 pub const ROOM: usize = 4200;
+// Room for the text.
+const TEXT_ROOM: usize = 131072;
 // What a buffer is filled with, so that a byte that is written shows.
 const FILL: u8 = 0xa5;
 
@@ -50,8 +53,8 @@ fn digit(c: u8) -> u8
 // The decimal number at a place, of at most ten digits; 0 where none stands there.
 fn decimal(text: &[u8], from: usize) -> Number
     requires { ⌜ from ≤ length (now text) ⌝ }
-    ensures { λ r. ⌜ (from ≤ r .next) × (r .next ≤ length (now (text .entry))) ⌝ }
-    ensures value { λ r. ⌜ r .value ≡ spelled 0 (drop from (now (text .entry))) ⌝ }
+    ensures { λ r. ⌜ (from ≤ r .next) × (r .next ≤ length (before text)) ⌝ }
+    ensures value { λ r. ⌜ r .value ≡ spelled 0 (drop from (before text)) ⌝ }
 {
     let mut value: usize = 0;
     let mut i = from;
@@ -74,7 +77,7 @@ fn decimal(text: &[u8], from: usize) -> Number
 
 // The decimal number after a place, and the largest of 32 bits where it is more.
 pub fn number_after(text: &[u8], at: usize) -> u32
-    ensures { λ r. ⌜ r ≡ min (spelled 0 (drop (at + 1) (now (text .entry)))) 4294967295 ⌝ }
+    ensures { λ r. ⌜ r ≡ min (spelled 0 (drop (at + 1) (before text))) 4294967295 ⌝ }
 {
     if text.len() <= at {
         return 0;
@@ -90,7 +93,7 @@ pub fn number_after(text: &[u8], at: usize) -> u32
 // The item at a place; a character that starts none is one that stands there no times.
 fn item_at(text: &[u8], at: usize, last: u8) -> Item
     requires { ⌜ at < length (now text) ⌝ }
-    ensures { λ r. ⌜ (at < r .next) × (r .next ≤ length (now (text .entry))) ⌝ }
+    ensures { λ r. ⌜ (at < r .next) × (r .next ≤ length (before text)) ⌝ }
 {
     let nothing = Item {
         byte: 0,
@@ -156,7 +159,7 @@ fn least(a: usize, b: usize) -> usize
 // many bytes it has then.
 fn put(buffer: &mut [u8], n: usize, byte: u8, times: usize) -> usize
     requires { ⌜ n ≤ length (now buffer) ⌝ }
-    ensures { λ r. ⌜ r ≤ length (now (buffer .exit)) ⌝ }
+    ensures { λ r. ⌜ r ≤ length (after buffer) ⌝ }
 {
     let end = n + least(times, buffer.len() - n);
     for i in n..end {
@@ -168,7 +171,7 @@ fn put(buffer: &mut [u8], n: usize, byte: u8, times: usize) -> usize
 // Goes on with a reading by the items of a text, in which no group stands.
 fn read_items(text: &[u8], buffer: &mut [u8], done: Reading) -> Reading
     requires { ⌜ done .bytes ≤ length (now buffer) ⌝ }
-    ensures { λ r. ⌜ r .bytes ≤ length (now (buffer .exit)) ⌝ }
+    ensures { λ r. ⌜ r .bytes ≤ length (after buffer) ⌝ }
 {
     let mut n = done.bytes;
     let mut last = done.last;
@@ -188,7 +191,7 @@ fn read_items(text: &[u8], buffer: &mut [u8], done: Reading) -> Reading
 // Goes on with a reading by the items of a text, so many times.
 fn read_group(text: &[u8], times: usize, buffer: &mut [u8], done: Reading) -> Reading
     requires { ⌜ done .bytes ≤ length (now buffer) ⌝ }
-    ensures { λ r. ⌜ r .bytes ≤ length (now (buffer .exit)) ⌝ }
+    ensures { λ r. ⌜ r .bytes ≤ length (after buffer) ⌝ }
 {
     let mut reading = done;
     for turn in 0..times {
@@ -200,8 +203,8 @@ fn read_group(text: &[u8], times: usize, buffer: &mut [u8], done: Reading) -> Re
 // The first place from another on where a character stands, or the text's length; where that other
 // place is past the text, that place.
 pub fn find(text: &[u8], from: usize, wanted: u8) -> usize
-    ensures { λ r. ⌜ r ≡ from + before (drop from (now (text .entry))) wanted ⌝ }
-    ensures bounds { λ r. ⌜ (from ≤ r) × (r ≤ max from (length (now (text .entry)))) ⌝ }
+    ensures { λ r. ⌜ r ≡ from + skipped (drop from (before text)) wanted ⌝ }
+    ensures bounds { λ r. ⌜ (from ≤ r) × (r ≤ max from (length (before text))) ⌝ }
 {
     let mut i = from;
     while i < text.len() && text[i] != wanted {
@@ -213,7 +216,7 @@ pub fn find(text: &[u8], from: usize, wanted: u8) -> usize
 // How often the group is repeated that ends at a place: the number after `)*`.
 fn times_at(text: &[u8], close: usize) -> Number
     requires { ⌜ close ≤ length (now text) ⌝ }
-    ensures { λ r. ⌜ (close ≤ r .next) × (r .next ≤ length (now (text .entry))) ⌝ }
+    ensures { λ r. ⌜ (close ≤ r .next) × (r .next ≤ length (before text)) ⌝ }
 {
     if text.len() - close < 2 {
         return Number {
@@ -226,7 +229,7 @@ fn times_at(text: &[u8], close: usize) -> Number
 
 // Reads a text into a buffer, and answers how many bytes it has.
 pub fn read_bytes(text: &[u8], buffer: &mut [u8]) -> usize
-    ensures { λ r. ⌜ Counts r (now (buffer .exit)) ⌝ }
+    ensures { λ r. ⌜ Counts r (after buffer) ⌝ }
 {
     let mut reading = Reading {
         bytes: 0,
@@ -254,33 +257,33 @@ pub fn wide(byte: u8) -> u64
 }
 
 // A buffer for the text.
-pub fn text_buffer() -> [u8; 131072]
-    ensures { λ r. ⌜ 131072 ≡ length r ⌝ }
-    ensures bytes { λ r. ⌜ ((i : ℕ) → i < 131072 → getD r i 0 ≡ 0) ⌝ }
+pub fn text_buffer() -> [u8; TEXT_ROOM]
+    ensures { λ r. ⌜ textRoom ≡ length r ⌝ }
+    ensures bytes { λ r. ⌜ ((i : ℕ) → i < textRoom → getD r i 0 ≡ 0) ⌝ }
 {
-    [0; 131072]
+    [0; TEXT_ROOM]
 }
 
 // A buffer for a sheet or a table, every byte of it 0xa5.
 pub fn filled() -> [u8; ROOM]
-    ensures { λ r. ⌜ 4200 ≡ length r ⌝ }
-    ensures bytes { λ r. ⌜ ((i : ℕ) → i < 4200 → getD r i 0 ≡ 165) ⌝ }
+    ensures { λ r. ⌜ room ≡ length r ⌝ }
+    ensures bytes { λ r. ⌜ ((i : ℕ) → i < room → getD r i 0 ≡ fill) ⌝ }
 {
     [FILL; ROOM]
 }
 
 // A length as a number of a buffer's bytes.
 pub fn within(n: usize, buffer: &[u8]) -> usize
-    ensures { λ r. ⌜ Counts r (now (buffer .entry)) ⌝ }
-    ensures number { λ r. ⌜ r ≡ min n (length (now (buffer .entry))) ⌝ }
+    ensures { λ r. ⌜ Counts r (before buffer) ⌝ }
+    ensures number { λ r. ⌜ r ≡ min n (length (before buffer)) ⌝ }
 {
     least(n, buffer.len())
 }
 
 // Whether two buffers hold the same bytes.
 pub fn same(a: &[u8; ROOM], b: &[u8; ROOM]) -> bool
-    ensures yes { λ r. ⌜ (r ≡ true → SameBytes 4200 (now (a .entry)) (now (b .entry))) ⌝ }
-    ensures no { λ r. ⌜ (r ≡ false → SameBytes 4200 (now (a .entry)) (now (b .entry)) → ⊥) ⌝ }
+    ensures yes { λ r. ⌜ (r ≡ true → SameBytes room (before a) (before b)) ⌝ }
+    ensures no { λ r. ⌜ (r ≡ false → SameBytes room (before a) (before b) → ⊥) ⌝ }
 {
     let mut i = 0;
     while i < ROOM {

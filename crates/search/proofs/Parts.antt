@@ -1,15 +1,22 @@
 -- The least of some of the ranks, and how the scan puts four tones' together.
 -- Assumes nothing.
+use mathlib.Core.Bool.{cond}
 use mathlib.Core.Path.{_≡_, refl, _∙_}
 use mathlib.Core.List.{List}
 use mathlib.Core.Logic.{_≢_}
 use Prim.Native.Nat.{ℕ, _+_, _≤_, _<_}
 use native.Mathlib.Decide.{decLt}
 use native.Mathlib.Omega.{arith}
-use borrow.Author.Tests.{lt-ltb, le-ltb}
+use borrow.Author.Tests.{ltb-true, ltb-false}
+use lib.Dec.{ltb}
 use lib.ListN.{getD}
-use Rattle.ranks.specs.Ranks.{noStep, NoneFrom}
-use Rattle.search.specs.Least.{lesserOf, Among, LeastOf}
+use Rattle.sizes.specs.Sizes.{mostTones}
+use Rattle.lists.proofs.Tests.{by-test}
+use Rattle.ranks.specs.Ranks.{noStep, NoneFrom, Among, LeastOf}
+
+-- the lesser of two, as the code picks it
+abbrev lesserOf : ℕ → ℕ → ℕ
+lesserOf a b = cond (ltb b a) b a
 
 -- the least of the ranks from tone m on, below tone n
 pub record Part (ranks : List ℕ) (m n r : ℕ) : Type 0 where
@@ -28,22 +35,20 @@ module _ {ranks : List ℕ} where
 
   -- two parts, one after the other
   both : {m k n a b : ℕ} → Part ranks m k a → Part ranks k n b → k ≤ n → Part ranks m n (lesserOf a b)
-  both {m} {k} {n} {a} {b} P Q h = go (decLt b a)
+  both {m} {k} {n} {a} {b} P Q h =
+      by-test (Part ranks m n) (ltb b a)
+      (λ e. record { low = lower b (omega (arith, ltb-true b a e)) (omega arith); among = Q .among })
+      (λ e. record { low = lower a (omega arith) (omega (arith, ltb-false b a e)); among = λ s. wider (P .among s) })
     where
-      go : Dec (b < a) → Part ranks m n (lesserOf a b)
-      go (yes q) = rw (lt-ltb b a q) (record { low = λ i g l. low i g l (decLt i k); among = Q .among })
+      lower : (r : ℕ) → r ≤ a → r ≤ b → (i : ℕ) → m ≤ i → i < n → r ≤ getD ranks i 0
+      lower r ra rb i g l = go (decLt i k)
         where
-          low : (i : ℕ) → m ≤ i → i < n → Dec (i < k) → b ≤ getD ranks i 0
-          low i g l (yes s) = omega (arith, P .low i g s)
-          low i g l (no s) = Q .low i (omega arith) l
-      go (no q) = rw (le-ltb b a (omega arith)) (record { low = λ i g l. low i g l (decLt i k); among = λ s. among (P .among s) })
-        where
-          low : (i : ℕ) → m ≤ i → i < n → Dec (i < k) → a ≤ getD ranks i 0
-          low i g l (yes s) = P .low i g s
-          low i g l (no s) = omega (arith, Q .low i (omega arith) l)
+          go : Dec (i < k) → r ≤ getD ranks i 0
+          go (yes s) = omega (arith, P .low i g s)
+          go (no s) = omega (arith, Q .low i (omega arith) l)
 
-          among : Among k ranks a → Among n ranks a
-          among A = record { tone = A .tone; inside = omega (arith, A .inside); there = A .there }
+      wider : {r : ℕ} → Among k ranks r → Among n ranks r
+      wider A = record { tone = A .tone; inside = omega (arith, A .inside); there = A .there }
 
   -- a turn of the scan
   pub four-more : {i r : ℕ} → Part ranks 0 i r
@@ -57,7 +62,7 @@ module _ {ranks : List ℕ} where
       (omega arith)
 
   -- from tone n on there is no step, so the scan may go past it
-  pub part-least : {m n r : ℕ} → Part ranks 0 m r → n ≤ m → m ≤ 256 → NoneFrom n ranks → LeastOf n ranks r
+  pub part-least : {m n r : ℕ} → Part ranks 0 m r → n ≤ m → m ≤ mostTones → NoneFrom n ranks → LeastOf n ranks r
   part-least {m} {n} {r} P h l N = record {
     low = λ i q. P .low i (omega arith) (omega arith);
     among = λ q. go q (P .among q) (decLt (P .among q .tone) n);

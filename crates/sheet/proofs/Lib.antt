@@ -1,10 +1,7 @@
+pub mod Walk
 pub mod Sound
+pub mod Notes
 pub mod Turns
-pub mod Answers
-pub mod Parts
-pub mod Length
-pub mod Accepted
-pub mod Written
-pub mod RoundTrip
-pub mod Tidied
-pub mod Examples
+pub mod Uses
+pub mod Counts
+pub mod Formats

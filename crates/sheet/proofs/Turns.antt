@@ -1,145 +1,181 @@
--- The reading, command by command: what remains of it gives what the whole gives.
+-- The reading, command by command: what remains of it gives what the whole gives, and the arrays index the line so far. Laws:
+--   starts                             it starts with empty arrays
+--   said                               what is known of the command that was decoded
+--   on-head, on-describe, on-silence   it goes on after a command
+--   on-refused, on-more, on-end        it ends with one
 -- Assumes nothing.
-use mathlib.Core.Bool.{cond}
 use mathlib.Core.List.{List}
 use mathlib.Core.Path.{_≡_, refl, ap, sym, _∙_}
-use Prim.Native.Nat.{ℕ, zero, suc, _+_, _-_, _≤_, _<_}
+use Prim.Native.Nat.{ℕ, zero, suc, _+_, _-_, _^_, _≤_, _<_}
 use native.Mathlib.Decide.{decLe}
 use native.Mathlib.Nat.{not-suc-le-zero}
+use native.Mathlib.Numerals.{add-one}
 use native.Mathlib.Omega.{arith}
 use borrow.Author.Tests.{le-ltb, lt-ltb}
-use lib.Dec.{ltb}
-use lib.ListN.{length}
-use Rattle.line.specs.declared.Line.{Line}
+use lib.ListN.{length, getD, set, replicate, length-set, length-replicate}
+use Rattle.sizes.specs.Sizes.{mostTones, mostWords, wordsOf, longestSheet}
+use Rattle.lists.proofs.Stores.{all-same}
+use Rattle.silence.specs.Map.{joined}
+use Rattle.line.specs.Line.{undescribed, Line, entryOf}
+use Rattle.command.specs.declared.Refusal.{Refusal}
 use Rattle.command.specs.declared.Refusal.the-variants.{BytesAfterEnd}
+use Rattle.command.specs.declared.Header.{Header}
 use Rattle.command.specs.declared.Command.{Command}
-use Rattle.command.specs.declared.Command.the-variants.{Size, Gap, Budget, Describe, Silence, End, Refused}
+use Rattle.command.specs.declared.Command.the-variants.{End, Refused, Head, Describe, Silence}
 use Rattle.command.specs.declared.Decoded.{Decoded}
-use Rattle.command.specs.Rows.{commandAt}
-use Rattle.command.proofs.Rows.{command-too-long, command-at}
+use Rattle.command.specs.Places.{entryAt}
+use Rattle.command.specs.Format.{today, addressed, commandAt}
 use Rattle.command.proofs.Said.{There, Said, command-said}
-use Rattle.sheet.specs.declared.Answer.{Answer}
-use Rattle.sheet.specs.declared.Answer.the-variants as answer
-use Rattle.sheet.specs.Reading.{Next, stop, go, emptyLine, describedIn, effect, afterDecoded, commandIn, follow, readFrom, reading, answerOf}
+use Rattle.sheet.specs.declared.Read.{Read}
+use Rattle.sheet.specs.declared.Read.the-variants as read
+use Rattle.sheet.specs.Reading.{Meaning, accepted, refused, headerOf, bareLine, emptyLine, effect, Next, stop, go, afterDecoded, commandIn, readOn, readFrom, readingIn, reading}
+use Rattle.sheet.specs.Index.{Indexes, answerOf}
+use Rattle.sheet.proofs.Notes.{Empty, notes-head, notes-describe, notes-silence}
 
--- the reading has come to a place, after so many of the first three commands, with the line so far; what remains gives what the whole
--- gives, unless the sheet is too long: then every command is refused
-pub record Going (s : List ℕ) (l : Line) (at stage : ℕ) : Type 0 where
+-- a line has an entry for each tone, and a map for each word
+pub record Sized (l : Line) : Type 0 where
+  pub entries-sized : length (l .entries) ≡ l .size
+  pub maps-sized : length (l .maps) ≡ wordsOf (l .size)
+
+-- The reading has come to a place, after so many of the first three commands, with a line so far that the arrays index. What remains
+-- gives what the whole gives, unless the sheet is too long: then every command is refused.
+pub record Going (s places maps : List ℕ) (h : Header) (at stage : ℕ) : Type 0 where
   pub most : ℕ
+  pub line : Line
+  pub sized : Sized line
+  pub header-is : headerOf line ≡ h
+  pub index : Indexes s places maps line
+  pub empty : stage < 3 → Empty places maps
+  pub low : stage ≤ 3
+  pub past : stage ≤ at
   pub inside : at ≤ length s
   pub enough : length s < most + at
-  pub same : length s ≤ 4096 → readFrom most s at stage l ≡ reading s
+  pub same : length s ≤ longestSheet → readFrom today most s at stage line ≡ reading s
 
--- where the code's reading stands: below stage 4 it goes on, with no refusal met; at stage 4 it has ended with an answer
-pub record Stands (s : List ℕ) (l : Line) (a : Answer) (at stage : ℕ) : Type 0 where
-  pub going : stage < 4 → Going s l at stage
-  pub unrefused : stage < 4 → a ≡ answer.Accepted
-  pub ended : 4 ≤ stage → answerOf a l ≡ reading s
+-- what reading the commands answers and leaves; where the sheet is refused, nothing is said of the arrays
+abbrev pub Ended : List ℕ → Read → (places maps : List ℕ) → Type 0
+Ended s r places maps = (r ≡ answerOf (reading s)) × ((l : Line) → reading s ≡ accepted l → Indexes s places maps l)
 
--- how far the end can be: nearer with each command, and 0 once the reading has ended
-abbrev pub left : (length at stage : ℕ) → ℕ
-left n at stage = cond (ltb stage 4) (suc n - at) 0
+sized-bare : (h : Header) → Sized (bareLine h)
+sized-bare h = record { entries-sized = length-replicate (h .size) undescribed; maps-sized = length-replicate {A = ℕ} (wordsOf (h .size)) 0 }
 
--- a command has brought the code from a place to the next one: what is known of the command, and where the reading stands
-pub record Turned (s : List ℕ) (at stage : ℕ) (c : Command) (l : Line) (a : Answer) (next stage′ : ℕ) : Type 0 where
-  pub said : Said (length s) at next c
-  pub again : Stands s l a next stage′
-  pub less : left (length s) next stage′ < left (length s) at stage
+empty-start : Empty (replicate mostTones 0) (replicate mostWords 0)
+empty-start = record {
+  places-sized = length-replicate {A = ℕ} mostTones 0;
+  maps-sized = length-replicate {A = ℕ} mostWords 0;
+  no-place = λ i. all-same {A = ℕ} mostTones i 0;
+  no-map = λ word. all-same {A = ℕ} mostWords word 0;
+}
 
--- what the code does with each command
-abbrev pub Turn : List ℕ → Line → Answer → (at stage next : ℕ) → Command → Type 0
-Turn s l a at stage next End =
-    (next < length s → Turned s at stage End l (answer.Refused (BytesAfterEnd next)) next 4)
-    × (length s ≤ next → Turned s at stage End l a next 4)
-Turn s l a at stage next (Refused r) = Turned s at stage (Refused r) l (answer.Refused r) next 4
-Turn s l a at stage next (Size n) = Turned s at stage (Size n) (effect (Size n) l) a next 1
-Turn s l a at stage next (Gap g) = Turned s at stage (Gap g) (effect (Gap g) l) a next 2
-Turn s l a at stage next (Budget b) = Turned s at stage (Budget b) (effect (Budget b) l) a next 3
-Turn s l a at stage next (Describe i t) = Turned s at stage (Describe i t) (effect (Describe i t) l) a next stage
-Turn s l a at stage next (Silence word map) = Turned s at stage (Silence word map) (effect (Silence word map) l) a next stage
+pub starts : (s : List ℕ) → Going s (replicate mostTones 0) (replicate mostWords 0) (record { size = 0; gap = 0; budget = 0 }) 0 0
+unfolding readingIn
+starts s = record {
+  most = suc (length s);
+  line = emptyLine;
+  sized = sized-bare _;
+  header-is = refl;
+  index = notes-head s empty-start _;
+  empty = λ l. empty-start;
+  low = omega arith;
+  past = omega arith;
+  inside = omega arith;
+  enough = omega arith;
+  same = λ h. simp (le-ltb _ _ h);
+}
 
 one-command : (most : ℕ) (s : List ℕ) (at stage : ℕ) (l : Line) → 0 < most
-    → readFrom most s at stage l ≡ follow (afterDecoded (commandIn l s at stage) s stage l) (readFrom (most - 1) s)
+    → readFrom today most s at stage l ≡ readOn (afterDecoded (commandIn today l s at stage) s at stage l) (readFrom today (most - 1) s)
 unfolding readFrom
 one-command zero s at stage l h = absurd (not-suc-le-zero h)
 one-command (suc most) s at stage l h =
     let e : suc most - 1 ≡ most = omega arith in
-    ap (λ (k : ℕ). follow (afterDecoded (commandIn l s at stage) s stage l) (readFrom k s)) (sym e)
+    ap (λ (k : ℕ). readOn (afterDecoded (commandIn today l s at stage) s at stage l) (readFrom today k s)) (sym e)
 
-module _ {s : List ℕ} {l : Line} {a : Answer} {at : ℕ} where
-  has-ended : answerOf a l ≡ reading s → Stands s l a at 4
-  has-ended h = record { going = λ low. absurd (omega arith); unrefused = λ low. absurd (omega arith); ended = λ z. h }
+module _ {s places maps : List ℕ} {h : Header} {at stage : ℕ} (g : Going s places maps h at stage)
+    {d : Decoded} (e : d ≡ commandAt today h (entryAt s (getD places (addressed s at) 0)) s at stage) where
+  -- what was decoded by the place of the tone is the command of the line so far
+  matches : d ≡ commandAt today (headerOf (g .line)) (entryOf (g .line) (addressed s at)) s at stage
+  matches = cc (g .index .entry (addressed s at))
 
-  is-going : {stage : ℕ} → stage < 4 → a ≡ answer.Accepted → Going s l at stage → Stands s l a at stage
-  is-going low u g = record { going = λ z. g; unrefused = λ z. u; ended = λ z. absurd (omega arith) }
-
--- the reading starts
-pub starts : (s : List ℕ) → Stands s emptyLine answer.Accepted 0 0
-unfolding reading
-starts s =
-    is-going (omega arith) refl
-    (record {
-      most = suc (length s);
-      inside = omega arith;
-      enough = omega arith;
-      same = λ h. simp (le-ltb _ _ h);
-    })
-
-module _ {s : List ℕ} {l : Line} {a : Answer} {at stage : ℕ} (w : Stands s l a at stage) (low : stage < 4)
-    (d : Decoded) (e : d ≡ commandAt (l .size) (describedIn (l .entries)) s at stage) where
-  known : (c : Command) → d .command ≡ c → Said (length s) at (d .next) c
-  known c f = rw f at (rw (sym e) at (command-said (l .size) (describedIn (l .entries)) s at stage))
-
-  some-left : 0 < w .going low .most
-  some-left = let g = w .going low in omega arith
+  pub said : (c : Command) → d .command ≡ c → Said (headerOf (g .line)) (entryOf (g .line) (addressed s at)) s at stage (d .next) c
+  said c f = rw f at (rw (sym matches) at (command-said (headerOf (g .line)) (entryOf (g .line) (addressed s at)) s at stage))
 
   -- what the reading comes to after this command is what the whole comes to; where the sheet is too long, both are refusal 1
-  after : (n : Next) → afterDecoded d s stage l ≡ n → follow n (readFrom (w .going low .most - 1) s) ≡ reading s
-  unfolding reading
-  after n o = rw (sym o) (by (decLe (length s) 4096))
+  after : (n : Next) → afterDecoded d s at stage (g .line) ≡ n → readOn n (readFrom today (g .most - 1) s) ≡ reading s
+  unfolding readingIn commandAt
+  after n o = rw (sym o) (by (decLe (length s) longestSheet))
     where
-      by : Dec (length s ≤ 4096) → follow (afterDecoded d s stage l) (readFrom (w .going low .most - 1) s) ≡ reading s
-      by (yes h) =
-          rw (e ∙ command-at (l .size) (describedIn (l .entries)) s at stage h)
-          (sym (one-command (w .going low .most) s at stage l some-left) ∙ w .going low .same h)
-      by (no h) =
-          let long : 4096 < length s = omega arith in
-          simp (e ∙ command-too-long (l .size) (describedIn (l .entries)) s at stage long, lt-ltb 4096 (length s) long)
+      by : Dec (length s ≤ longestSheet) → readOn (afterDecoded d s at stage (g .line)) (readFrom today (g .most - 1) s) ≡ reading s
+      by (yes short) =
+          let here : d ≡ commandIn today (g .line) s at stage = matches ∙ simp (le-ltb longestSheet (length s) short) in
+          rw here (sym (one-command (g .most) s at stage (g .line) (omega arith)) ∙ g .same short)
+      by (no m) =
+          let long : longestSheet < length s = omega arith in
+          simp (matches, lt-ltb longestSheet (length s) long)
 
   -- the reading ends with this command
-  ends : (c : Command) → d .command ≡ c → (a′ : Answer) → afterDecoded d s stage l ≡ stop (answerOf a′ l) → Turned s at stage c l a′ (d .next) 4
-  ends c f a′ o = record {
-    said = known c f;
-    again = has-ended (after _ o);
-    less = let g = w .going low in rw (lt-ltb stage 4 low) (omega arith);
-  }
+  ends : (m : Meaning) → afterDecoded d s at stage (g .line) ≡ stop m → ((l : Line) → m ≡ accepted l → Indexes s places maps l) → Ended s (answerOf m) places maps
+  ends m o x = (ap answerOf (after (stop m) o), λ l q. x l (after (stop m) o ∙ q))
+
+  -- a refusal indexes no line
+  refuses : (q : Refusal) → afterDecoded d s at stage (g .line) ≡ stop (refused q) → Ended s (answerOf (refused q)) places maps
+  refuses q o = ends (refused q) o (λ l f. never l f)
+    where
+      never : (l : Line) → refused q ≡ accepted l → Indexes s places maps l
+      never l f =
+          let z : _≡_ {A = ℕ} 0 1 = cc in
+          absurd (omega arith)
+
+  pub on-refused : (q : Refusal) → d .command ≡ Refused q → Ended s (answerOf (refused q)) places maps
+  on-refused q f = refuses q (simp f)
+
+  pub on-more : d .command ≡ End → d .next < length s → Ended s (answerOf (refused (BytesAfterEnd (d .next)))) places maps
+  on-more f l = refuses (BytesAfterEnd (d .next)) (simp (f, lt-ltb _ _ l))
+
+  pub on-end : d .command ≡ End → length s ≤ d .next → Ended s (read.Accepted h) places maps
+  on-end f l = rw (sym (g .header-is)) (ends (accepted (g .line)) (simp (f, le-ltb _ _ l)) (λ m q. same m q))
+    where
+      same : (m : Line) → accepted (g .line) ≡ accepted m → Indexes s places maps m
+      same m q =
+          let is : g .line ≡ m = cc in
+          rw is at (g .index)
 
   -- it goes on after this command
-  goes-on : (c : Command) → d .command ≡ c → (stage′ : ℕ) (l′ : Line) → stage′ < 4 → There (length s) at (d .next)
-      → afterDecoded d s stage l ≡ go (d .next) stage′ l′ → Turned s at stage c l′ a (d .next) stage′
-  goes-on c f stage′ l′ lower k o =
-      let g = w .going low in
-      record {
-        said = known c f;
-        again =
-            is-going lower (w .unrefused low)
-            (record {
-              most = g .most - 1;
-              inside = k .inside;
-              enough = omega (arith, some-left);
-              same = λ h. after _ o;
-            });
-        less = rw (lt-ltb stage 4 low, lt-ltb stage′ 4 lower) (omega arith);
-      }
+  goes-on : {places′ maps′ : List ℕ} {h′ : Header} {stage′ : ℕ} (l : Line) → There (length s) at (d .next) → afterDecoded d s at stage (g .line) ≡ go (d .next) stage′ l
+      → Sized l → headerOf l ≡ h′ → Indexes s places′ maps′ l → (stage′ < 3 → Empty places′ maps′) → stage′ ≤ 3 → stage′ ≤ d .next
+      → Going s places′ maps′ h′ (d .next) stage′
+  goes-on l there o sized is index empty low past = record {
+    most = g .most - 1;
+    line = l;
+    sized = sized;
+    header-is = is;
+    index = index;
+    empty = empty;
+    low = low;
+    past = past;
+    inside = there .inside;
+    enough = omega arith;
+    same = λ short. after (go (d .next) _ l) o;
+  }
 
-  pub turned : (c : Command) → d .command ≡ c → Turn s l a at stage (d .next) c
-  turned End f = (
-    λ h. ends _ f (answer.Refused (BytesAfterEnd (d .next))) (simp (f, lt-ltb _ _ h)),
-    λ h. ends _ f a (simp (f, le-ltb _ _ h, w .unrefused low)),
-  )
-  turned (Refused r) f = ends _ f (answer.Refused r) (simp f)
-  turned (Size n) f = goes-on _ f 1 _ (omega arith) (known _ f) (simp f)
-  turned (Gap g) f = goes-on _ f 2 _ (omega arith) (known _ f) (simp f)
-  turned (Budget b) f = goes-on _ f 3 _ (omega arith) (known _ f) (simp f)
-  turned (Describe i t) f = goes-on _ f stage _ low (known _ f) (simp f)
-  turned (Silence word map) f = goes-on _ f stage _ low (known _ f .0) (simp f)
+  pub on-head : (h′ : Header) → d .command ≡ Head h′ → Going s places maps h′ (d .next) (stage + 1)
+  on-head h′ f =
+      let k = said _ f in
+      rw (add-one stage)
+      (goes-on (bareLine h′) (k .there) (simp f) (sized-bare h′) refl (notes-head s (g .empty (k .early)) h′) (λ l. g .empty (omega arith)) (omega arith) (omega arith))
+
+  pub on-describe : (i : ℕ) → addressed s at < mostTones → d .command ≡ Describe i → Going s (set places i at) maps h (d .next) stage
+  on-describe i small f =
+      let k = said _ f in
+      goes-on (effect (Describe i) s at (g .line)) (k .there) (simp f)
+      (record { entries-sized = length-set (g .line .entries) i _ ∙ g .sized .entries-sized; maps-sized = g .sized .maps-sized }) (g .header-is)
+      (notes-describe s (g .index) at i (omega (arith, k .tone)) (omega (arith, k .of-line, g .sized .entries-sized)) (omega arith) (record { code = k .code; tone = sym (k .tone); inside = k .whole }))
+      (λ l. absurd (omega arith)) (g .low) (omega arith)
+
+  pub on-silence : (word map : ℕ) → map < 2 ^ 32 → d .command ≡ Silence word map → Going s places (joined maps word map) h (d .next) stage
+  on-silence word map small f =
+      let k = said _ f in
+      goes-on (effect (Silence word map) s at (g .line)) (k .there) (simp f)
+      (record { entries-sized = g .sized .entries-sized; maps-sized = length-set (g .line .maps) word _ ∙ g .sized .maps-sized }) (g .header-is)
+      (notes-silence s (g .index) at word map (k .word-high) small (omega (arith, g .sized .maps-sized)) (k .of-line))
+      (λ l. absurd (omega arith)) (g .low) (omega arith)

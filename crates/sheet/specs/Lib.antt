@@ -1,4 +1,3 @@
 pub mod Reading
+pub mod Index
 pub mod Check
-pub mod Tidy
-pub mod Claims

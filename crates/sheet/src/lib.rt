@@ -1,147 +1,96 @@
-// Reading a line sheet: document 01, 'The line sheet' and 'Why a sheet is turned down'.
+// Reading a line sheet: document 01, 'The line sheet' and 'Why a sheet is turned down'. The bytes are checked once; what is left is an
+// index into them, in lent arrays.
 ghost use mathlib.Core.Path.{_≡_};
-ghost use Prim.Native.Nat.{_+_, _≤_, _<_};
-ghost use lib.ListN.{length, getD};
+ghost use Prim.Native.Nat.{_≤_, _<_};
+ghost use lib.Dec.{ltb};
+ghost use lib.ListN.{getD, replicate};
+ghost use Rattle.sizes.specs.Sizes.{mostTones, mostWords};
+ghost use Rattle.lists.specs.Lent.{before, after};
 ghost use Rattle.silence.specs.Map.{count};
+ghost use Rattle.line.specs.Line.{Line};
 ghost use Rattle.sheet.specs.Check.{checking, checkNumbers, checkOutcome};
-ghost use Rattle.sheet.specs.Reading.{isDescribed, describedIn, readingOf, reading, meant};
+ghost use Rattle.sheet.specs.Index.{Indexes, ReadsAs, answerOf};
+ghost use Rattle.sheet.specs.Reading.{accepted, reading};
 use command::Command;
+use command::Header;
 use command::Refusal;
-use line::Entry;
-use line::Line;
-use line::Slot;
+use sizes::TONES;
+use sizes::WORDS;
 
-// A sheet is accepted, or refused.
-pub enum Answer {
-    Accepted,
+// A sheet is accepted, with its header, or refused.
+pub enum Read {
+    Accepted(Header),
     Refused(Refusal),
 }
 
-// A sheet as it is read: the answer, and the line that it means where it is accepted.
-pub struct Sheet {
-    pub answer: Answer,
-    pub line: Line,
-}
-
-// What a sheet means: a line, or the refusal that it meets.
-pub enum Meaning {
-    Line(Line),
-    Refused(Refusal),
-}
-
-// Whether an entry's tone is described.
-fn is_described(entry: Entry) -> bool
-    ensures { λ r. ⌜ r ≡ isDescribed (entry .slot) ⌝ }
+// Reads the commands of a sheet one after the other, and notes where each tone's stands and which tones the maps silence. After a
+// refusal the arrays are as far as it was read.
+fn read_commands(s: &[u8], places: &mut [u16; TONES], maps: &mut [u32; WORDS]) -> Read
+    requires { ⌜ now places ≡ replicate mostTones 0 ⌝ }
+    requires { ⌜ now maps ≡ replicate mostWords 0 ⌝ }
+    ensures answer { λ r. ⌜ r ≡ answerOf (reading (before s)) ⌝ }
+    ensures index { λ r. ⌜ ((l : Line) → reading (before s) ≡ accepted l → Indexes (before s) (after places) (after maps) l) ⌝ }
 {
-    let slot = entry.slot;
-    match slot {
-        Slot::Undescribed => false,
-        Slot::Described(_) => true,
-    }
-}
-
-// The byte after a place, or 0 past the end.
-fn byte_after(s: &[u8], at: usize) -> usize
-    requires { ⌜ at ≤ length (now s) ⌝ }
-    ensures meaning { λ r. ⌜ r ≡ getD (now (s .entry)) (at + 1) 0 ⌝ }
-    ensures range { λ r. ⌜ r < 256 ⌝ }
-{
-    if at + 1 < s.len() {
-        return s[at + 1] as usize;
-    }
-    0
-}
-
-// Reads a sheet: whether it is accepted, or the first refusal that it meets; and the line. After a refusal nothing is promised of the line.
-pub fn read_sheet(s: &[u8]) -> Sheet
-    ensures { λ r. ⌜ readingOf r ≡ reading (now (s .entry)) ⌝ }
-{
-    let mut size: u16 = 0;
-    let mut gap: u16 = 0;
-    let mut budget: u64 = 0;
-    let mut entries = [Entry {
-        slot: Slot::Undescribed,
-    }; 256];
-    let mut maps: [u32; 8] = [0; 8];
-    let mut answer = Answer::Accepted;
-    let mut at: usize = 0;
-    // How many of the first three commands are read; 4 once the reading has ended.
+    let mut header = Header {
+        size: 0,
+        gap: 0,
+        budget: 0,
+    };
     let mut stage: u8 = 0;
-    while stage < 4 {
-        let after = byte_after(s, at);
-        let entry = entries[after];
-        let taken = is_described(entry);
-        let decoded = command::decode(s, at, stage, size, taken);
+    let mut at: usize = 0;
+    loop {
+        let tone = command::addressed(s, at);
+        let decoded = command::decode(s, at, stage, header, places[tone]);
         let command = decoded.command;
-        at = decoded.next;
+        let next = decoded.next;
         match command {
             Command::End => {
-                if at < s.len() {
-                    answer = Answer::Refused(Refusal::BytesAfterEnd(at as u16));
+                if next < s.len() {
+                    return Read::Refused(Refusal::BytesAfterEnd(next as u16));
                 }
-                stage = 4;
+                return Read::Accepted(header);
             }
-            Command::Refused(refusal) => {
-                answer = Answer::Refused(refusal);
-                stage = 4;
+            Command::Refused(refusal) => return Read::Refused(refusal),
+            Command::Head(h) => {
+                header = h;
+                stage += 1;
             }
-            Command::Size(n) => {
-                size = n;
-                stage = 1;
-            }
-            Command::Gap(n) => {
-                gap = n;
-                stage = 2;
-            }
-            Command::Budget(n) => {
-                budget = n;
-                stage = 3;
-            }
-            Command::Describe(tone, t) => {
-                entries[tone as usize] = Entry {
-                    slot: Slot::Described(t),
-                };
-            }
+            Command::Describe(i) => places[i as usize] = at as u16,
             Command::Silence(word, map) => {
-                let joined = maps[word as usize] | map;
-                maps[word as usize] = joined;
+                maps[word as usize] |= map;
             }
         }
-    }
-    Sheet {
-        answer: answer,
-        line: Line {
-            size: size,
-            gap: gap,
-            budget: budget,
-            entries: entries,
-            maps: maps,
-        },
+        at = next;
     }
 }
 
-// Reads a sheet: the line that it means, or the first refusal that it meets. For a caller that wants one value; the library's own calls
-// go by `read_sheet`.
-pub fn read(s: &[u8]) -> Meaning
-    ensures { λ r. ⌜ meant r ≡ reading (now (s .entry)) ⌝ }
+// Reads a sheet: its header, or the first refusal that it meets. If it is accepted the arrays then index its line, whatever they held
+// before; if it is refused they are empty.
+pub fn read_sheet(s: &[u8], places: &mut [u16; TONES], maps: &mut [u32; WORDS]) -> Read
+    ensures { λ r. ⌜ ReadsAs (before s) r (after places) (after maps) (reading (before s)) ⌝ }
 {
-    let sheet = read_sheet(s);
-    match sheet.answer {
-        Answer::Accepted => Meaning::Line(sheet.line),
-        Answer::Refused(refusal) => Meaning::Refused(refusal),
+    *places = [0; TONES];
+    *maps = [0; WORDS];
+    let read = read_commands(s, places, maps);
+    match read {
+        Read::Accepted(header) => Read::Accepted(header),
+        Read::Refused(refusal) => {
+            *places = [0; TONES];
+            *maps = [0; WORDS];
+            Read::Refused(refusal)
+        }
     }
 }
 
-// How many tones are described.
-fn described_count(size: u16, entries: [Entry; 256]) -> u16
-    requires { ⌜ size ≤ 256 ⌝ }
-    ensures { λ r. ⌜ r ≡ count size (describedIn entries) ⌝ }
+// How many tones have a place.
+fn placed_count(size: u16, places: &[u16; TONES]) -> u16
+    requires { ⌜ size ≤ mostTones ⌝ }
+    ensures { λ r. ⌜ r ≡ count size (λ i. ltb 0 (getD (before places) i 0)) ⌝ }
 {
     let mut n: u16 = 0;
     let mut i: u16 = 0;
     while i < size {
-        let entry = entries[i as usize];
-        if is_described(entry) {
+        if 0 < places[i as usize] {
             n += 1;
         }
         i += 1;
@@ -157,19 +106,18 @@ pub enum Checked {
 
 // Checks a sheet.
 pub fn check(s: &[u8]) -> Checked
-    ensures answer { λ r. ⌜ r ≡ checking (reading (now (s .entry))) ⌝ }
-    ensures numbers { λ r. ⌜ checkNumbers r ≡ checkOutcome (reading (now (s .entry))) ⌝ }
+    ensures answer { λ r. ⌜ r ≡ checking (reading (before s)) ⌝ }
+    ensures numbers { λ r. ⌜ checkNumbers r ≡ checkOutcome (reading (before s)) ⌝ }
 {
-    let sheet = read_sheet(s);
-    let answer = sheet.answer;
-    match answer {
-        Answer::Refused(refusal) => Checked::Refused(refusal),
-        Answer::Accepted => {
-            let line = sheet.line;
-            let entries = line.entries;
-            let maps = line.maps;
-            let described = described_count(line.size, entries);
-            Checked::Counts(line.size, described, silence::silenced_count(&maps) as u16)
+    let mut places: [u16; TONES] = [0; TONES];
+    let mut maps: [u32; WORDS] = [0; WORDS];
+    let read = read_sheet(s, &mut places, &mut maps);
+    match read {
+        Read::Refused(refusal) => Checked::Refused(refusal),
+        Read::Accepted(header) => {
+            let size = header.size;
+            let described = placed_count(size, &places);
+            Checked::Counts(size, described, silence::silenced_count(&maps) as u16)
         }
     }
 }

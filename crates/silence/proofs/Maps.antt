@@ -1,10 +1,18 @@
--- Laws of silence maps: bits, tests below a number, and maps that join. Assumes nothing.
+-- Laws of silence maps:
+--   joined-bit, joined-lt                                   the bits of a map that joins two, and its range
+--   some-false, some-true, none-some                        whether some number below another passes a test
+--   count-le, counted-le, count-same, count-past, count-more   how many do
+--   beyond-clear, beyond-zero, clear-beyond, beyond-shift   maps that name no tone from N on
+--   joined-silences                                         maps of one word join
+--   ones-count, silenced-in, count-word                     the ones of each map are the tones that the maps silence
+-- Assumes nothing.
 use mathlib.Core.Bool.{Bool, true, false, not, _&&_, _||_, true≢false, or-false, and-true, and-false}
 use mathlib.Core.Logic.{⊎-elim}
 use mathlib.Core.List.{List}
 use mathlib.Core.Path.{_≡_, refl, ap, sym, _∙_}
 use Prim.Native.Nat.{ℕ, zero, suc, _+_, _*_, _-_, _/_, _%_, _^_, _≤_, _<_, max}
 use native.Mathlib.Nat.{eq-or-lt-of-le, le-of-suc-le-suc, not-suc-le-zero, mod-lt, mod-eq-of-lt, zero-div, div-eq-of-lt, lt-of-lt-of-le, add-comm, add-assoc, add-suc, add-zero}
+use native.Mathlib.Numerals.{add-one}
 use native.Mathlib.Omega.{arith}
 use borrow.Author.Tests.{eqb-true, eqb-false, eq-eqb, ne-eqb, leb-true, ltb-true, ltb-false, le-leb, not-false}
 use lib.Bits.{bitOr, or-shr, or-step, or-lt}
@@ -90,7 +98,7 @@ count-le (suc n) test = omega (arith, count-le n test, one-le (test n))
 pub counted-le : (n : ℕ) (test : ℕ → Bool) {m : ℕ} → m ≡ count n test → m ≤ n
 counted-le n test e = omega (arith, count-le n test)
 
-count-same : (n : ℕ) (f g : ℕ → Bool) → ((k : ℕ) → k < n → f k ≡ g k) → count n f ≡ count n g
+pub count-same : (n : ℕ) (f g : ℕ → Bool) → ((k : ℕ) → k < n → f k ≡ g k) → count n f ≡ count n g
 unfolding count
 count-same zero f g h = refl
 count-same (suc n) f g h =
@@ -103,6 +111,25 @@ unfolding count
 count-add n zero test = rw (add-zero n, add-zero (count n test))
 count-add n (suc m) test = rw (add-suc, count-add n m test) (add-assoc (count n test) (count m (λ k. test (n + k))) (one (test (n + m))))
 
+count-none : (n : ℕ) → count n (λ k. false) ≡ 0
+unfolding count
+count-none zero = refl
+count-none (suc n) = omega (arith, count-none n)
+
+-- where none passes from n on, those below n are all
+pub count-past : (n m : ℕ) (test : ℕ → Bool) → n ≤ m → ((k : ℕ) → n ≤ k → test k ≡ false) → count m test ≡ count n test
+count-past n m test h past =
+    let e : n + (m - n) ≡ m = omega arith in
+    ap (λ (k : ℕ). count k test) (sym e)
+    ∙ count-add n (m - n) test
+    ∙ ap (λ (k : ℕ). count n test + k) (count-same (m - n) _ _ (λ k l. past (n + k) (omega arith)) ∙ count-none (m - n))
+    ∙ add-zero (count n test)
+
+-- one number more
+pub count-more : (n : ℕ) (test : ℕ → Bool) → count (n + 1) test ≡ count n test + one (test n)
+unfolding count
+count-more n test = ap (λ (k : ℕ). count k test) (add-one n)
+
 -- Tones that are `size` or more
 
 pub beyond-clear : (size word map : ℕ) → map < 2 ^ 32 → namesBeyond size word map ≡ false → (k : ℕ) → size ≤ 32 * word + k → bit map k ≡ 0
@@ -114,6 +141,10 @@ beyond-clear size word map l e k h =
     unset q =
         let s : eqb (bit map k) 1 ≡ false = sym (rw (le-leb size (32 * word + k) h) (and-true (eqb (bit map k) 1))) ∙ q in
         omega (arith, bit-lt map k, eqb-false (bit map k) 1 s)
+
+-- a map names no tone beyond, and has no other: it is 0
+pub beyond-zero : (size word map : ℕ) → map < 2 ^ 32 → size ≤ 32 * word → namesBeyond size word map ≡ false → map ≡ 0
+beyond-zero size word map l h e = all-clear 32 map l (λ k. beyond-clear size word map l e k (omega arith))
 
 pub clear-beyond : (size word map : ℕ) → ((k : ℕ) → k < 32 → size ≤ 32 * word + k → bit map k ≡ 0) → namesBeyond size word map ≡ false
 unfolding namesBeyond

@@ -6,6 +6,7 @@ use Prim.Native.Nat.{ℕ, zero, suc, _+_, _*_, _/_, _%_, _^_}
 use lib.Bits.{bitOr}
 use lib.Dec.{eqb, leb}
 use lib.ListN.{getD, set}
+use Rattle.sizes.specs.Sizes.{wordTones}
 
 -- bit k of a map, 0 or 1
 abbrev pub bit : (map k : ℕ) → ℕ
@@ -13,7 +14,7 @@ bit map k = map / 2 ^ k % 2
 
 -- 'Bit k of a map (value 2^k) silences tone 32 × word + k': whether the maps, one for each word, silence a tone
 abbrev pub silenced : (maps : List ℕ) → (tone : ℕ) → Bool
-silenced maps tone = eqb (bit (getD maps (tone / 32) 0) (tone % 32)) 1
+silenced maps tone = eqb (bit (getD maps (tone / wordTones) 0) (tone % wordTones)) 1
 
 -- 'Maps of one word join.'
 abbrev pub joined : (maps : List ℕ) → (word map : ℕ) → List ℕ
@@ -26,7 +27,7 @@ some (suc n) test = some n test || test n
 
 -- 'a map names such a tone', one that is N or more
 unfoldable pub namesBeyond : (size word map : ℕ) → Bool
-namesBeyond size word map = some 32 (λ k. eqb (bit map k) 1 && leb size (32 * word + k))
+namesBeyond size word map = some wordTones (λ k. eqb (bit map k) 1 && leb size (wordTones * word + k))
 
 -- 1 where the test passes
 abbrev pub one : Bool → ℕ

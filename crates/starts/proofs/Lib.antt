@@ -1,3 +1,2 @@
-pub mod Above
+pub mod First
 pub mod Copied
-pub mod Stands

@@ -1,18 +1,19 @@
--- Starting tables, and the running table that a run of a line starts from. Document 01, 'A re-fit's starting table is one byte of bits a
--- tone', and refusal 10.
+-- Starting tables, and the running table that a run starts from. Document 01, 'A re-fit's starting table is one byte of bits a tone', and
+-- refusal 10.
 -- Assumes nothing.
+use mathlib.Core.List.{List}
 use mathlib.Core.Logic.{ite}
 use mathlib.Core.Option.{Option, none, some}
 use mathlib.Core.Path.{_≡_}
 use Prim.Native.Nat.{ℕ, zero, suc, _<_}
 use native.Mathlib.Decide.{decLt}
-use lib.ListN.{getD, replicate}
-use Rattle.steps.specs.Tones.{Tones, Table, _!_, totalPower, KeepsLimits}
-use Rattle.line.specs.declared.Line.{Line}
-use Rattle.line.specs.Line.{tones}
-use Rattle.loading.specs.declared.Running.{Running}
-use Rattle.starts.specs.declared.Found.{Found}
-use Rattle.starts.specs.declared.Found.the-variants.{Nothing, Tone}
+use lib.ListN.{length, getD, replicate}
+use Rattle.sizes.specs.Sizes.{mostTones}
+use Rattle.steps.specs.Tones.{Tones, Rising, Table, _!_, KeepsLimits}
+use Rattle.line.specs.Arrays.{Arrays, Describes, StandsFor}
+use Rattle.running.specs.declared.Running.{Running}
+use Rattle.starts.specs.declared.Above.{Above}
+use Rattle.starts.specs.declared.Above.the-variants.{Nowhere, Tone}
 
 -- the first of two that is there
 unfoldable pub orElse : Option ℕ → Option ℕ → Option ℕ
@@ -25,17 +26,20 @@ unfolding orElse
 firstAbove T t zero = none
 firstAbove T t (suc n) = orElse (firstAbove T t n) (ite (decLt (T .limit n) (t ! n)) (some n) none)
 
+-- an array has the limits of the first n tones
+pub record SameLimits (T : Tones) (limits : List ℕ) (n : ℕ) : Type 0 where
+  pub same-limit : (i : ℕ) → i < n → T .limit i ≡ getD limits i 0
+
 -- what the search for it answers, as an option
-abbrev pub found : Found → Option ℕ
-found Nothing = none
-found (Tone i) = some i
+abbrev pub aboveAt : Above → Option ℕ
+aboveAt Nowhere = none
+aboveAt (Tone i) = some i
 
 -- the running table of no bits
 abbrev pub noBitsYet : Running
-noBitsYet = record { bits = replicate 256 0; power = 0 }
+noBitsYet = record { bits = replicate mostTones 0; power = 0 }
 
--- The running table stands for table t of a line, which keeps the limits, and carries its total power.
-pub record Stands (l : Line) (r : Running) (t : Table) : Type 0 where
-  pub same-bits : (i : ℕ) → i < l .size → t ! i ≡ getD (r .bits) i 0
-  pub power : r .power ≡ totalPower (tones l) t
-  pub within : KeepsLimits (tones l) t
+-- The running table that a starting table is copied into stands for it, whatever rising tones the arrays describe.
+abbrev pub StartsAt : Arrays → (start : List ℕ) → Running → Type 0
+StartsAt A start r =
+    (T : Tones) → Describes (length start) A T → Rising T → KeepsLimits T start → StandsFor (length start) A (r .bits) (r .power) T start

@@ -1,31 +1,35 @@
 // Where the runs start: the table of no bits, or a starting table. Document 01, 'The loading runs' and refusal 10.
+ghost use mathlib.Core.List.{List};
 ghost use mathlib.Core.Path.{_≡_};
-ghost use Prim.Native.Nat.{ℕ, _≤_, _<_};
-ghost use lib.ListN.{length, getD};
-ghost use Rattle.steps.specs.Tones.{Tones, _!_, totalPower};
-ghost use Rattle.line.specs.Line.{PowersInRange, Powers};
-ghost use Rattle.starts.specs.Starts.{found, firstAbove, noBitsYet};
-use loading::Running;
+ghost use Prim.Native.Nat.{ℕ, _≤_};
+ghost use lib.ListN.{length};
+ghost use Rattle.sizes.specs.Sizes.{mostTones};
+ghost use Rattle.lists.specs.Lent.{before};
+ghost use Rattle.steps.specs.Tones.{Tones};
+ghost use Rattle.line.specs.Arrays.{arrays, PowersInRange};
+ghost use Rattle.starts.specs.Starts.{aboveAt, firstAbove, SameLimits, noBitsYet, StartsAt};
+use running::Running;
+use sizes::TONES;
 
-// The tone that was found, if any.
-pub enum Found {
-    Nothing,
+// The first tone with more bits than its limit, if any.
+pub enum Above {
+    Nowhere,
     Tone(usize),
 }
 
 // The first tone of a starting table with more bits than its limit.
-pub fn first_above(start: &[u8], limits: &[u8; 256]) -> Found
-    requires { ⌜ length (now start) ≤ 256 ⌝ }
-    ensures { λ r. ⌜ ((T : Tones) → ((i : ℕ) → i < length (now (start .entry)) → T .limit i ≡ getD (now (limits .entry)) i 0) → found r ≡ firstAbove T (now (start .entry)) (length (now (start .entry)))) ⌝ }
+pub fn first_above(start: &[u8], limits: &[u8; TONES]) -> Above
+    requires { ⌜ length (now start) ≤ mostTones ⌝ }
+    ensures { λ r. ⌜ ((T : Tones) → SameLimits T (before limits) (length (before start)) → aboveAt r ≡ firstAbove T (before start) (length (before start))) ⌝ }
 {
     let mut i: usize = 0;
     while i < start.len() {
         if limits[i] < start[i] {
-            return Found::Tone(i);
+            return Above::Tone(i);
         }
         i += 1;
     }
-    Found::Nothing
+    Above::Nowhere
 }
 
 // The running table of no bits.
@@ -33,16 +37,16 @@ pub fn no_bits() -> Running
     ensures { λ r. ⌜ r ≡ noBitsYet ⌝ }
 {
     Running {
-        bits: [0; 256],
+        bits: [0; TONES],
         power: 0,
     }
 }
 
 // The running table of a starting table, with its total power, by the costs and doublings of its tones.
-pub fn from_start(start: &[u8], costs: &[u64; 256], doublings: &[u8; 256]) -> Running
-    requires { ⌜ (length (now start) ≤ 256) × PowersInRange (length (now start)) (now costs) (now doublings) (now start) ⌝ }
-    ensures bits { λ r. ⌜ ((i : ℕ) → i < length (now (start .entry)) → now (start .entry) ! i ≡ getD (r .bits) i 0) ⌝ }
-    ensures power { λ r. ⌜ ((T : Tones) → T .count ≡ length (now (start .entry)) → Powers T (now (costs .entry)) (now (doublings .entry)) (now (start .entry)) → r .power ≡ totalPower T (now (start .entry))) ⌝ }
+pub fn from_start(start: &[u8], costs: &[u32; TONES], doublings: &[u8; TONES]) -> Running
+    requires { ⌜ length (now start) ≤ mostTones ⌝ }
+    requires { ⌜ PowersInRange (length (now start)) (now costs) (now doublings) (now start) ⌝ }
+    ensures { λ r. ⌜ ((limits : List ℕ) → StartsAt (arrays limits (before costs) (before doublings)) (before start) r) ⌝ }
 {
     let mut running = no_bits();
     let mut i: usize = 0;

@@ -1,16 +1,17 @@
 -- The bytes of a table: how many they are, what they go by, and what a buffer holds once they are written at its start.
 -- Assumes nothing.
-use mathlib.Core.List.{List, _∷_, _++_}
-use mathlib.Core.Path.{_≡_, refl, sym, ap, _∙_}
+use mathlib.Core.List.{List, _++_}
+use mathlib.Core.Path.{_≡_, refl, ap, _∙_}
 use Prim.Native.Nat.{ℕ, zero, suc, _+_, _*_, _≤_, _<_}
 use native.Mathlib.Omega.{arith}
 use lib.ListN.{length, getD, drop}
-use lib.Seq.{sets, sets-eq}
-use Rattle.bigendian.specs.Number.{bytes}
+use lib.Seq.{sets}
+use Rattle.lists.proofs.Stores.{from-start}
+use Rattle.sizes.specs.Sizes.{bytesATone}
 use Rattle.bigendian.proofs.Numbers.{length-bytes}
 use Rattle.bigendian.proofs.Stores.{Growing, length-none, length-next}
 use Rattle.steps.specs.Tones.{Tones, Table, _!_}
-use Rattle.line.specs.Line.{powerIn, Powers}
+use Rattle.line.specs.Arrays.{arrays, powerIn, StandsFor}
 use Rattle.tables.specs.Tables.{toneEntry, entriesBelow, tableBytes}
 
 -- tone by tone
@@ -18,11 +19,11 @@ pub entries-grow : (T : Tones) (t : Table) → Growing (entriesBelow T t) (toneE
 unfolding entriesBelow
 entries-grow T t = record { none = refl; next = λ n. refl }
 
--- 9 bytes a tone
-pub length-entry : (T : Tones) (t : Table) (i : ℕ) → length (toneEntry T t i) ≡ 9
+-- so many bytes a tone
+pub length-entry : (T : Tones) (t : Table) (i : ℕ) → length (toneEntry T t i) ≡ bytesATone
 length-entry T t i = omega (arith, length-bytes 8 (T .power i (t ! i)))
 
-pub length-entries : (T : Tones) (t : Table) (n : ℕ) → length (entriesBelow T t n) ≡ 9 * n
+pub length-entries : (T : Tones) (t : Table) (n : ℕ) → length (entriesBelow T t n) ≡ bytesATone * n
 length-entries T t zero = length-none (entries-grow T t)
 length-entries T t (suc n) = omega (arith, length-next (entries-grow T t) n, length-entries T t n, length-entry T t n)
 
@@ -31,23 +32,20 @@ unfolding entriesBelow
 same-entries T U t u zero h = refl
 same-entries T U t u (suc n) h = rw (same-entries T U t u n (λ i l. h i (omega arith)), h n (omega arith))
 
--- the bytes of a table go by its bits of the tones
-pub same-table-bytes : (T : Tones) (t u : Table) → ((i : ℕ) → i < T .count → t ! i ≡ u ! i) → tableBytes T t ≡ tableBytes T u
-same-table-bytes T t u h =
-    same-entries T T t u (T .count) (λ i l. ap (λ (b : ℕ). b ∷ bytes 8 (T .power i b)) (h i l))
-
 -- tones by their costs and doublings alone
 abbrev pub plain : (costs doublings : List ℕ) → Tones
 plain costs doublings = record { count = 0; limit = λ i. 0; power = λ i b. powerIn (getD costs i 0) (getD doublings i 0) b }
 
--- they give the bytes of all tones that have their powers
-pub plain-table-bytes : (T : Tones) (t : Table) {costs doublings : List ℕ} → Powers T costs doublings t
-    → entriesBelow (plain costs doublings) t (T .count) ≡ tableBytes T t
-plain-table-bytes T t {costs} {doublings} P =
-    same-entries (plain costs doublings) T t t (T .count) (λ i l. ap (λ (p : ℕ). t ! i ∷ bytes 8 p) (sym (P .same-power i l)))
+-- they give the bytes of whatever table the arrays and the bits stand for
+pub plain-table-bytes : {count : ℕ} {limits costs doublings bits : List ℕ} {power : ℕ} {T : Tones} {t : Table}
+    → StandsFor count (arrays limits costs doublings) bits power T t → entriesBelow (plain costs doublings) bits (T .count) ≡ tableBytes T t
+plain-table-bytes {count} {costs = costs} {doublings} {bits} {T = T} {t} S =
+    same-entries (plain costs doublings) T bits t (T .count) (λ i l.
+    let il : i < count = omega (arith, S .describes .same-count) in
+    rw (S .describes .same-power i (t ! i) il (S .within .under i l), S .same-bits i il))
 
 -- a table written at a buffer's start, and what stays behind it
-pub table-written : (T : Tones) (t : Table) (out : List ℕ) → 9 * T .count ≤ length out → sets out 0 (tableBytes T t) ≡ tableBytes T t ++ drop (9 * T .count) out
+pub table-written : (T : Tones) (t : Table) (out : List ℕ) → bytesATone * T .count ≤ length out → sets out 0 (tableBytes T t) ≡ tableBytes T t ++ drop (bytesATone * T .count) out
 table-written T t out h =
-    let z : 0 + length (tableBytes T t) ≡ 9 * T .count = omega (arith, length-entries T t (T .count)) in
-    sets-eq (tableBytes T t) out 0 (omega arith) ∙ ap (λ (m : ℕ). tableBytes T t ++ drop m out) z
+    let n = length-entries T t (T .count) in
+    from-start (tableBytes T t) out (omega (arith, n)) ∙ ap (λ (m : ℕ). tableBytes T t ++ drop m out) n

@@ -2,9 +2,12 @@
 -- byte first'.
 -- Assumes nothing.
 use mathlib.Core.List.{List, [], _∷_, _++_}
+use mathlib.Core.Path.{_≡_}
 use Prim.Native.Nat.{ℕ, zero, suc}
+use lib.Seq.{sets}
 use Rattle.bigendian.specs.Number.{bytes}
 use Rattle.steps.specs.Tones.{Tones, Table, _!_}
+use Rattle.line.specs.Arrays.{Arrays, StandsFor}
 
 -- the 9 bytes of tone i
 abbrev pub toneEntry : Tones → Table → (i : ℕ) → List ℕ
@@ -17,3 +20,7 @@ entriesBelow T t (suc n) = entriesBelow T t n ++ toneEntry T t n
 
 abbrev pub tableBytes : Tones → Table → List ℕ
 tableBytes T t = entriesBelow T t (T .count)
+
+-- The buffer afterwards: the bytes of whatever table of rising tones the arrays and the bits stand for, from its start on.
+abbrev pub WritesTable : (count : ℕ) → Arrays → (bits old new : List ℕ) → Type 0
+WritesTable count A bits old new = (power : ℕ) (T : Tones) (t : Table) → StandsFor count A bits power T t → new ≡ sets old 0 (tableBytes T t)

@@ -1,2 +1,4 @@
-pub mod Outcomes
+pub mod Copies
 pub mod Writes
+pub mod Index
+pub mod Outcomes

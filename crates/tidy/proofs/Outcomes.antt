@@ -1,44 +1,45 @@
 -- The three outcomes of tidying, each with its answer and its buffer.
 -- Assumes nothing.
 use mathlib.Core.Bool.{Bool, true, false, cond}
-use mathlib.Core.List.{List, [], _∷_, _++_}
+use mathlib.Core.List.{List, [], _∷_}
 use mathlib.Core.Path.{_≡_, refl, ap, _∙_}
-use Prim.Native.Nat.{ℕ, _+_, _≤_, _<_}
+use Prim.Native.Nat.{ℕ, _≤_, _<_}
 use native.Mathlib.Omega.{arith}
 use borrow.Author.Tests.{le-ltb, lt-ltb}
 use lib.Dec.{ltb}
-use lib.ListN.{length, drop}
-use lib.Seq.{sets, sets-eq}
-use Rattle.line.specs.declared.Line.{Line}
+use lib.ListN.{length}
+use lib.Seq.{sets}
+use Rattle.lists.proofs.Stores.{from-start}
+use Rattle.line.specs.Line.{Line}
 use Rattle.command.specs.declared.Refusal.{Refusal}
 use Rattle.command.specs.declared.Refusal.the-variants.{DestinationTooSmall}
-use Rattle.sheet.specs.Reading.{Reading, accepted, refused}
-use Rattle.sheet.specs.Tidy.{tidy}
+use Rattle.sheet.specs.Reading.{Meaning, accepted, refused}
+use Rattle.tidyform.specs.Tidy.{tidy}
 use Rattle.command.specs.Refusals.{refusal, success}
 use Rattle.tidy.specs.declared.Tidied.{Tidied}
 use Rattle.tidy.specs.declared.Tidied.the-variants.{Length, Refused}
 use Rattle.tidy.specs.Tidying.{tidying, tidyNumbers, tidyOutcome, afterTidying}
 
 -- the answer, in the paper's numbers, is the outcome that the reading gives
-same-numbers : (x : Reading) (room : ℕ) → tidyNumbers (tidying x room) ≡ tidyOutcome x room
+same-numbers : (x : Meaning) (room : ℕ) → tidyNumbers (tidying x room) ≡ tidyOutcome x room
 same-numbers (refused r) room = refl
-same-numbers (accepted l) room = by-test (ltb room (length (tidy l)))
+same-numbers (accepted l) room = both (ltb room (length (tidy l)))
   where
-    by-test : (t : Bool) → tidyNumbers (cond t (Refused DestinationTooSmall) (Length (length (tidy l)))) ≡ cond t (refusal 1 DestinationTooSmall) (success (length (tidy l) ∷ []))
-    by-test true = refl
-    by-test false = refl
+    both : (t : Bool) → tidyNumbers (cond t (Refused DestinationTooSmall) (Length (length (tidy l)))) ≡ cond t (refusal 1 DestinationTooSmall) (success (length (tidy l) ∷ []))
+    both true = refl
+    both false = refl
 
 -- the answer, its numbers and the buffer
-abbrev pub Ended : Reading → (out after : List ℕ) → Tidied → Type 0
+abbrev pub Ended : Meaning → (out after : List ℕ) → Tidied → Type 0
 Ended x out after r = (r ≡ tidying x (length out)) × ((tidyNumbers r ≡ tidyOutcome x (length out)) × (after ≡ afterTidying x out))
 
-ended : (x : Reading) (out : List ℕ) {after : List ℕ} {r : Tidied} → r ≡ tidying x (length out) → after ≡ afterTidying x out → Ended x out after r
+ended : (x : Meaning) (out : List ℕ) {after : List ℕ} {r : Tidied} → r ≡ tidying x (length out) → after ≡ afterTidying x out → Ended x out after r
 ended x out e f = (e, (ap tidyNumbers e ∙ same-numbers x (length out), f))
 
-pub turned-down : {x : Reading} (r : Refusal) (out : List ℕ) → x ≡ refused r → Ended x out out (Refused r)
+pub turned-down : {x : Meaning} (r : Refusal) (out : List ℕ) → x ≡ refused r → Ended x out out (Refused r)
 turned-down {x} r out e = ended x out (simp e) (simp e)
 
-module _ {x : Reading} {l : Line} (e : x ≡ accepted l) (out : List ℕ) {n : ℕ} (f : n ≡ length (tidy l)) where
+module _ {x : Meaning} {l : Line} (e : x ≡ accepted l) (out : List ℕ) {n : ℕ} (f : n ≡ length (tidy l)) where
   pub too-small : length out < n → Ended x out out (Refused DestinationTooSmall)
   too-small h =
       let t = lt-ltb (length out) (length (tidy l)) (omega arith) in
@@ -47,9 +48,4 @@ module _ {x : Reading} {l : Line} (e : x ≡ accepted l) (out : List ℕ) {n : �
   pub written : n ≤ length out → Ended x out (sets out 0 (tidy l)) (Length n)
   written h =
       let t = le-ltb (length out) (length (tidy l)) (omega arith) in
-      ended x out (simp (e, t, f)) (simp (e, t) (from-start (tidy l) (omega arith)))
-    where
-      from-start : (vs : List ℕ) → length vs ≤ length out → sets out 0 vs ≡ vs ++ drop (length vs) out
-      from-start vs k =
-          let z : 0 + length vs ≡ length vs = omega arith in
-          sets-eq vs out 0 (omega arith) ∙ ap (λ (m : ℕ). vs ++ drop m out) z
+      ended x out (simp (e, t, f)) (simp (e, t) (from-start (tidy l) out (omega arith)))

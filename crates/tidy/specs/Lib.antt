@@ -1,1 +1,2 @@
 pub mod Tidying
+pub mod Copies

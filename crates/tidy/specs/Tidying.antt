@@ -8,17 +8,17 @@ use lib.Dec.{ltb}
 use lib.ListN.{length, drop}
 use Rattle.command.specs.declared.Refusal.the-variants.{DestinationTooSmall}
 use Rattle.command.specs.Refusals.{Outcome, success, refusal}
-use Rattle.sheet.specs.Reading.{Reading, accepted, refused}
-use Rattle.sheet.specs.Tidy.{tidy}
+use Rattle.sheet.specs.Reading.{Meaning, accepted, refused}
+use Rattle.tidyform.specs.Tidy.{tidy}
 use Rattle.tidy.specs.declared.Tidied.{Tidied}
 use Rattle.tidy.specs.declared.Tidied.the-variants.{Length, Refused}
 
-abbrev pub tidying : Reading → (room : ℕ) → Tidied
+abbrev pub tidying : Meaning → (room : ℕ) → Tidied
 tidying (accepted l) room = cond (ltb room (length (tidy l))) (Refused DestinationTooSmall) (Length (length (tidy l)))
 tidying (refused r) room = Refused r
 
 -- the buffer afterwards: a refusal changes no byte of it
-abbrev pub afterTidying : Reading → (old : List ℕ) → List ℕ
+abbrev pub afterTidying : Meaning → (old : List ℕ) → List ℕ
 afterTidying (accepted l) old = cond (ltb (length old) (length (tidy l))) old (tidy l ++ drop (length (tidy l)) old)
 afterTidying (refused r) old = old
 
@@ -28,6 +28,6 @@ tidyNumbers (Length n) = success (n ∷ [])
 tidyNumbers (Refused r) = refusal 1 r
 
 -- what tidying answers in those numbers: the tidy length, or the refusal
-abbrev pub tidyOutcome : Reading → (room : ℕ) → Outcome
+abbrev pub tidyOutcome : Meaning → (room : ℕ) → Outcome
 tidyOutcome (accepted l) room = cond (ltb room (length (tidy l))) (refusal 1 DestinationTooSmall) (success (length (tidy l) ∷ []))
 tidyOutcome (refused r) room = refusal 1 r

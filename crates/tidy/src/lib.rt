@@ -1,68 +1,50 @@
 // Tidying a sheet: document 01, 'The line sheet'.
 mod writer;
 
+ghost use mathlib.Core.List.{List};
 ghost use mathlib.Core.Path.{_≡_};
-ghost use Prim.Native.Nat.{ℕ, _+_, _≤_};
+ghost use Prim.Native.Nat.{ℕ, _*_, _≤_};
 ghost use lib.ListN.{length};
+ghost use Rattle.sizes.specs.Sizes.{mostTones, mostWords};
+ghost use Rattle.lists.specs.Lent.{before, after};
 ghost use Rattle.sheet.specs.Reading.{reading};
+ghost use Rattle.tidyform.specs.Tidy.{mapBytes};
 ghost use Rattle.tidy.specs.Tidying.{tidying, tidyNumbers, tidyOutcome, afterTidying};
-ghost use Rattle.sheet.specs.Tidy.{slotBytes, toneBytes, mapBytes, tidy};
+ghost use Rattle.tidy.specs.Copies.{copies};
 use command::Refusal;
-use line::Entry;
-use line::Line;
-use line::Slot;
-use sheet::Answer;
+use sheet::Read;
+use sizes::TONES;
+use sizes::WORDS;
 
-// How many bytes the command of a slot has.
-fn slot_bytes(slot: Slot) -> usize
-    ensures { λ r. ⌜ ((i : ℕ) → r ≡ length (slotBytes i slot)) ⌝ }
-{
-    match slot {
-        Slot::Undescribed => 0,
-        Slot::Described(_) => 15,
-    }
-}
-
-// How many bytes the described tones take.
-fn tones_bytes(size: u16, entries: [Entry; 256]) -> usize
-    requires { ⌜ size ≤ 256 ⌝ }
-    ensures { λ r. ⌜ (r ≡ length (toneBytes size entries)) × (r ≤ 3840) ⌝ }
+// How many bytes the described tones take, in any sheet.
+fn tones_bytes(size: u16, places: &[u16; TONES]) -> usize
+    requires { ⌜ size ≤ mostTones ⌝ }
+    ensures { λ r. ⌜ ((s : List ℕ) → r ≡ length (copies size s (before places))) × (r ≤ 15 * mostTones) ⌝ }
 {
     let mut bytes: usize = 0;
     let mut i: u16 = 0;
     while i < size {
-        let entry = entries[i as usize];
-        let slot = entry.slot;
-        bytes += slot_bytes(slot);
+        if 0 < places[i as usize] {
+            bytes += 15;
+        }
         i += 1;
     }
     bytes
 }
 
 // How many bytes the silence maps take.
-fn words_bytes(maps: [u32; 8]) -> usize
-    ensures { λ r. ⌜ (r ≡ length (mapBytes 8 maps)) × (r ≤ 48) ⌝ }
+fn words_bytes(maps: &[u32; WORDS]) -> usize
+    ensures { λ r. ⌜ (r ≡ length (mapBytes mostWords (before maps))) × (r ≤ 6 * mostWords) ⌝ }
 {
     let mut bytes: usize = 0;
     let mut word: usize = 0;
-    while word < 8 {
+    while word < WORDS {
         if maps[word] != 0 {
             bytes += 6;
         }
         word += 1;
     }
     bytes
-}
-
-// How many bytes the tidy form of a line has.
-fn line_bytes(line: Line) -> usize
-    requires { ⌜ line .size ≤ 256 ⌝ }
-    ensures { λ r. ⌜ r ≡ length (tidy line) ⌝ }
-{
-    let size = line.size;
-    let entries = line.entries;
-    let maps = line.maps;
-    16 + tones_bytes(size, entries) + words_bytes(maps)
 }
 
 // What tidying a sheet answers: the length of the tidy form, or why it is refused.
@@ -73,21 +55,21 @@ pub enum Tidied {
 
 // Writes the tidy form of a sheet to the start of a lent buffer.
 pub fn tidy(s: &[u8], out: &mut [u8]) -> Tidied
-    ensures answer { λ r. ⌜ r ≡ tidying (reading (now (s .entry))) (length (now (out .entry))) ⌝ }
-    ensures numbers { λ r. ⌜ tidyNumbers r ≡ tidyOutcome (reading (now (s .entry))) (length (now (out .entry))) ⌝ }
-    ensures bytes { λ r. ⌜ now (out .exit) ≡ afterTidying (reading (now (s .entry))) (now (out .entry)) ⌝ }
+    ensures answer { λ r. ⌜ r ≡ tidying (reading (before s)) (length (before out)) ⌝ }
+    ensures numbers { λ r. ⌜ tidyNumbers r ≡ tidyOutcome (reading (before s)) (length (before out)) ⌝ }
+    ensures bytes { λ r. ⌜ after out ≡ afterTidying (reading (before s)) (before out) ⌝ }
 {
-    let sheet = sheet::read_sheet(s);
-    let answer = sheet.answer;
-    match answer {
-        Answer::Refused(refusal) => Tidied::Refused(refusal),
-        Answer::Accepted => {
-            let line = sheet.line;
-            let bytes = line_bytes(line);
+    let mut places: [u16; TONES] = [0; TONES];
+    let mut maps: [u32; WORDS] = [0; WORDS];
+    let read = sheet::read_sheet(s, &mut places, &mut maps);
+    match read {
+        Read::Refused(refusal) => Tidied::Refused(refusal),
+        Read::Accepted(header) => {
+            let bytes = 16 + tones_bytes(header.size, &places) + words_bytes(&maps);
             if out.len() < bytes {
                 return Tidied::Refused(Refusal::DestinationTooSmall);
             }
-            writer::put_line(out, line);
+            writer::put_line(out, s, header, &places, &maps);
             Tidied::Length(bytes)
         }
     }

@@ -1,61 +1,58 @@
 // The tidy form of a line, written into a lent buffer: document 01, 'The line sheet'.
 ghost use mathlib.Core.Path.{_≡_};
-ghost use mathlib.Core.List.{_∷_};
-ghost use Prim.Native.Nat.{_+_, _≤_, _<_};
-ghost use lib.ListN.{length};
+ghost use Prim.Native.Nat.{ℕ, _+_, _≤_};
+ghost use lib.ListN.{length, getD};
 ghost use lib.Seq.{sets};
-ghost use Rattle.command.specs.Rows.{pair};
-ghost use Rattle.sheet.specs.Tidy.{operandBytes, numbersOf, slotBytes, toneBytes, wordBytes, mapBytes, tidy};
-use line::Entry;
-use line::Kind;
-use line::Line;
-use line::Numbers;
-use line::Slot;
+ghost use Rattle.sizes.specs.Sizes.{mostTones, mostWords};
+ghost use Rattle.lists.specs.Lent.{before, after};
+ghost use Rattle.line.specs.Line.{Line};
+ghost use Rattle.sheet.specs.Reading.{accepted, reading};
+ghost use Rattle.sheet.specs.Index.{Indexed};
+ghost use Rattle.tidyform.specs.Tidy.{wordBytes, mapBytes, tidy};
+ghost use Rattle.tidy.specs.Copies.{part, Inside, toneCopy, copies};
+use command::Header;
+use sizes::TONES;
+use sizes::WORDS;
 
-// A tone command, from a place on. The operands of both kinds have the same widths.
-fn put_tone(out: &mut [u8], at: usize, code: u8, tone: u8, n: Numbers)
-    requires { ⌜ at + 15 ≤ length (now out) ⌝ }
-    ensures { λ r. ⌜ now (out .exit) ≡ sets (now (out .entry)) at (code ∷ operandBytes (pair .operands) (numbersOf tone n)) ⌝ }
+// Copies so many bytes of a sheet, to a place of the buffer.
+fn copy(s: &[u8], from: usize, width: usize, out: &mut [u8], at: usize)
+    requires { ⌜ from + width ≤ length (now s) ⌝ }
+    requires { ⌜ at + width ≤ length (now out) ⌝ }
+    ensures { λ r. ⌜ after out ≡ sets (before out) at (part (before s) from width) ⌝ }
 {
-    out[at] = code;
-    out[at + 1] = tone;
-    bigendian::put_number(out, at + 2, 2, n.noise as u64);
-    bigendian::put_number(out, at + 4, 2, n.gain as u64);
-    out[at + 6] = n.cap;
-    bigendian::put_number(out, at + 7, 8, n.mask);
-}
-
-// The command of a slot, from a place on, if it is described. Answers the place after it.
-fn put_slot(out: &mut [u8], at: usize, tone: u8, slot: Slot) -> usize
-    requires { ⌜ at + length (slotBytes tone slot) ≤ length (now out) ⌝ }
-    ensures place { λ r. ⌜ r ≡ at + length (slotBytes tone slot) ⌝ }
-    ensures bytes { λ r. ⌜ now (out .exit) ≡ sets (now (out .entry)) at (slotBytes tone slot) ⌝ }
-{
-    match slot {
-        Slot::Undescribed => at,
-        Slot::Described(t) => {
-            let kind = t.kind;
-            match kind {
-                Kind::Pair(n) => put_tone(out, at, 4, tone, n),
-                Kind::Single(n) => put_tone(out, at, 5, tone, n),
-            }
-            at + 15
-        }
+    let mut i: usize = 0;
+    while i < width {
+        out[at + i] = s[from + i];
+        i += 1;
     }
 }
 
+// The command of the tone that stands at a place of the sheet, if one does. Answers the place after it in the buffer.
+fn put_tone(s: &[u8], place: u16, out: &mut [u8], at: usize) -> usize
+    requires { ⌜ Inside (now s) place ⌝ }
+    requires { ⌜ at + length (toneCopy (now s) place) ≤ length (now out) ⌝ }
+    ensures place { λ r. ⌜ r ≡ at + length (toneCopy (before s) place) ⌝ }
+    ensures bytes { λ r. ⌜ after out ≡ sets (before out) at (toneCopy (before s) place) ⌝ }
+{
+    if place < 1 {
+        return at;
+    }
+    copy(s, place as usize, 15, out, at);
+    at + 15
+}
+
 // The described tones in rising number, from a place on. Answers the place after them.
-fn put_tones(out: &mut [u8], at: usize, size: u16, entries: [Entry; 256]) -> usize
-    requires { ⌜ (size ≤ 256) × (at + length (toneBytes size entries) ≤ length (now out)) ⌝ }
-    ensures place { λ r. ⌜ r ≡ at + length (toneBytes size entries) ⌝ }
-    ensures bytes { λ r. ⌜ now (out .exit) ≡ sets (now (out .entry)) at (toneBytes size entries) ⌝ }
+fn put_tones(s: &[u8], size: u16, places: &[u16; TONES], out: &mut [u8], at: usize) -> usize
+    requires { ⌜ size ≤ mostTones ⌝ }
+    requires { ⌜ ((i : ℕ) → Inside (now s) (getD (now places) i 0)) ⌝ }
+    requires { ⌜ at + length (copies size (now s) (now places)) ≤ length (now out) ⌝ }
+    ensures place { λ r. ⌜ r ≡ at + length (copies size (before s) (before places)) ⌝ }
+    ensures bytes { λ r. ⌜ after out ≡ sets (before out) at (copies size (before s) (before places)) ⌝ }
 {
     let mut place = at;
-    let mut i: u16 = 0;
-    while i < size {
-        let entry = entries[i as usize];
-        let slot = entry.slot;
-        place = put_slot(out, place, i as u8, slot);
+    let mut i: usize = 0;
+    while i < size as usize {
+        place = put_tone(s, places[i], out, place);
         i += 1;
     }
     place
@@ -65,7 +62,7 @@ fn put_tones(out: &mut [u8], at: usize, size: u16, entries: [Entry; 256]) -> usi
 fn put_word(out: &mut [u8], at: usize, word: u8, map: u32) -> usize
     requires { ⌜ at + length (wordBytes word map) ≤ length (now out) ⌝ }
     ensures place { λ r. ⌜ r ≡ at + length (wordBytes word map) ⌝ }
-    ensures bytes { λ r. ⌜ now (out .exit) ≡ sets (now (out .entry)) at (wordBytes word map) ⌝ }
+    ensures bytes { λ r. ⌜ after out ≡ sets (before out) at (wordBytes word map) ⌝ }
 {
     if map == 0 {
         return at;
@@ -77,35 +74,39 @@ fn put_word(out: &mut [u8], at: usize, word: u8, map: u32) -> usize
 }
 
 // The silence commands of the words in rising order, from a place on. Answers the place after them.
-fn put_words(out: &mut [u8], at: usize, maps: [u32; 8]) -> usize
-    requires { ⌜ at + length (mapBytes 8 maps) ≤ length (now out) ⌝ }
-    ensures place { λ r. ⌜ r ≡ at + length (mapBytes 8 maps) ⌝ }
-    ensures bytes { λ r. ⌜ now (out .exit) ≡ sets (now (out .entry)) at (mapBytes 8 maps) ⌝ }
+fn put_words(out: &mut [u8], at: usize, maps: &[u32; WORDS]) -> usize
+    requires { ⌜ at + length (mapBytes mostWords (now maps)) ≤ length (now out) ⌝ }
+    ensures place { λ r. ⌜ r ≡ at + length (mapBytes mostWords (before maps)) ⌝ }
+    ensures bytes { λ r. ⌜ after out ≡ sets (before out) at (mapBytes mostWords (before maps)) ⌝ }
 {
     let mut place = at;
     let mut word: usize = 0;
-    while word < 8 {
+    while word < WORDS {
         place = put_word(out, place, word as u8, maps[word]);
         word += 1;
     }
     place
 }
 
-// The tidy form of a line, from the buffer's start on.
-pub(crate) fn put_line(out: &mut [u8], line: Line)
-    requires { ⌜ (line .size ≤ 256) × (length (tidy line) ≤ length (now out)) ⌝ }
-    ensures { λ r. ⌜ now (out .exit) ≡ sets (now (out .entry)) 0 (tidy line) ⌝ }
+// The tidy form of the line that an index of the sheet stands for, from the buffer's start on.
+pub(crate) fn put_line(
+    out: &mut [u8],
+    s: &[u8],
+    header: Header,
+    places: &[u16; TONES],
+    maps: &[u32; WORDS],
+)
+    requires { ⌜ Indexed (now s) header (now places) (now maps) ⌝ }
+    requires { ⌜ ((l : Line) → reading (now s) ≡ accepted l → length (tidy l) ≤ length (now out)) ⌝ }
+    ensures { λ r. ⌜ ((l : Line) → reading (before s) ≡ accepted l → after out ≡ sets (before out) 0 (tidy l)) ⌝ }
 {
     out[0] = 1;
-    bigendian::put_number(out, 1, 2, line.size as u64);
+    bigendian::put_number(out, 1, 2, header.size as u64);
     out[3] = 2;
-    bigendian::put_number(out, 4, 2, line.gap as u64);
+    bigendian::put_number(out, 4, 2, header.gap as u64);
     out[6] = 3;
-    bigendian::put_number(out, 7, 8, line.budget);
-    let size = line.size;
-    let entries = line.entries;
-    let maps = line.maps;
-    let tones_end = put_tones(out, 15, size, entries);
+    bigendian::put_number(out, 7, 8, header.budget);
+    let tones_end = put_tones(s, header.size, places, out, 15);
     let words_end = put_words(out, tones_end, maps);
     out[words_end] = 7;
 }

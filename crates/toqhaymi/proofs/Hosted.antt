@@ -5,40 +5,46 @@ use mathlib.Core.Path.{_≡_, refl, sym}
 use Prim.Native.Nat.{ℕ, _≤_, _<_}
 use borrow.Author.Tests.{lt-ltb, le-ltb}
 use lib.ListN.{length}
+use Rattle.sizes.specs.Sizes.{answerRoom}
+use Rattle.command.specs.declared.Refusal.the-variants.{DestinationTooSmall}
 use Rattle.command.specs.Refusals.{Outcome}
-use Rattle.sheet.specs.Reading.{Reading, accepted, refused, reading}
-use Rattle.answers.specs.Answers.{code, answered, withoutRoom, hosted, hostedBuffer}
-use Rattle.answers.proofs.Stored.{Ends, untouched}
+use Rattle.sheet.specs.Reading.{Meaning, accepted, refused, reading}
+use Rattle.answers.specs.declared.Reply.{Reply}
+use Rattle.answers.specs.Answers.{code, answered, withoutRoom, Says}
+use Rattle.answers.proofs.Stored.{Puts, Ends, ends, untouched}
+use Rattle.toqhaymi.specs.Host.{hosted, hostedBuffer}
 
 -- what a call has to show of its result and of the answer buffer
 abbrev pub Answers : (s : List ℕ) → Outcome → (answer after : List ℕ) → (result : ℕ) → Type 0
-Answers s o answer after result = Ends (hosted (length answer) (reading s) o) answer after result
+Answers s o answer after result = Ends (hosted s answer o) answer after result
 
 -- the same, and between the two of another lent buffer, which becomes `then` where there is room for the answers
 abbrev pub Writes : (s : List ℕ) → Outcome → (old then new answer after : List ℕ) → (result : ℕ) → Type 0
 Writes s o old then new answer after result =
-    (result ≡ code (hosted (length answer) (reading s) o))
-    × ((new ≡ hostedBuffer (length answer) old then) × (after ≡ answered (hosted (length answer) (reading s) o) answer))
+    (result ≡ code (hosted s answer o)) × ((new ≡ hostedBuffer answer old then) × (after ≡ answered (hosted s answer o) answer))
 
 -- ---- too short an answer buffer
 
 -- the outcome is a refusal, so no byte of the answer buffer changes
-kept : (x : Reading) (answer : List ℕ) → answer ≡ answered (withoutRoom x) answer
-kept (accepted l) answer = refl
+kept : (x : Meaning) (answer : List ℕ) → answer ≡ answered (withoutRoom x) answer
+kept (accepted l) answer = sym (untouched 0 DestinationTooSmall answer)
 kept (refused q) answer = sym (untouched 0 q answer)
 
-module _ (s : List ℕ) (o : Outcome) (answer : List ℕ) {result : ℕ} (h : length answer < 24) (e : result ≡ code (withoutRoom (reading s))) where
+module _ (s : List ℕ) (o : Outcome) (answer : List ℕ) {result : ℕ} (h : length answer < answerRoom) (e : result ≡ code (withoutRoom (reading s))) where
   pub short-answers : Answers s o answer answer result
-  short-answers = rw (lt-ltb (length answer) 24 h) (e, kept (reading s) answer)
+  short-answers = rw (lt-ltb (length answer) answerRoom h) (e, kept (reading s) answer)
 
   pub short-writes : (old then : List ℕ) → Writes s o old then old answer answer result
-  short-writes old then = rw (lt-ltb (length answer) 24 h) (e, (refl, kept (reading s) answer))
+  short-writes old then = rw (lt-ltb (length answer) answerRoom h) (e, (refl, kept (reading s) answer))
 
--- ---- an answer buffer of 24 bytes or more: the call's own outcome o, which the answering was given as p
+-- ---- room for the answers: the call's own outcome o, which the answer a says as p
 
-module _ (s : List ℕ) {p o : Outcome} (answer : List ℕ) {after : List ℕ} {result : ℕ} (h : 24 ≤ length answer) (n : p ≡ o) (a : Ends p answer after result) where
+module _ (s : List ℕ) {p o : Outcome} {a : Reply} (answer : List ℕ) {after : List ℕ} {result : ℕ} (h : answerRoom ≤ length answer) (n : p ≡ o) (S : Says a p)
+    (w : Puts a answer after result) where
   pub long-answers : Answers s o answer after result
-  long-answers = rw (le-ltb (length answer) 24 h, ← n) a
+  long-answers = rw (le-ltb (length answer) answerRoom h, ← n) (ends S answer w)
 
   pub long-writes : (old : List ℕ) {then new : List ℕ} → new ≡ then → Writes s o old then new answer after result
-  long-writes old w = rw (le-ltb (length answer) 24 h, ← n) (a .0, (w, a .1))
+  long-writes old new-is =
+      let a = ends S answer w in
+      rw (le-ltb (length answer) answerRoom h, ← n) (a .0, (new-is, a .1))

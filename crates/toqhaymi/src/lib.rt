@@ -1,37 +1,34 @@
 // The host's calls, for C: include/toqhaymi.h documents them. Document 01: 'For a host program on the bench computer, written in C'.
 ghost use mathlib.Core.Path.{_≡_};
-ghost use lib.ListN.{length};
-ghost use Rattle.sheet.specs.Reading.{reading};
-ghost use Rattle.sheet.specs.Check.{checkOutcome};
-ghost use Rattle.lineloads.specs.Loads.{loadOutcome, afterLoading};
-ghost use Rattle.lineloads.specs.Refits.{refitOutcome};
-ghost use Rattle.tidy.specs.Tidying.{tidyOutcome, afterTidying};
+ghost use Rattle.lists.specs.Lent.{before, after};
 ghost use Rattle.loader.specs.Calls.{loadMost, loadTarget, refit, oneStep};
-ghost use Rattle.answers.specs.Answers.{code, answered, hosted, hostedBuffer};
+ghost use Rattle.answers.specs.Answers.{code, answered};
+ghost use Rattle.toqhaymi.specs.Host.{hostCheck, hostMost, hostTarget, hostRefit, hostStep, hostTable, hostTidy, hostTidied};
+use sizes::ANSWER_BYTES;
 
 #[no_mangle]
 pub extern "C" fn toqhaymi_check(sheet: &[u8], answer: &mut [u8]) -> u64
-    ensures returned { λ r. ⌜ r ≡ code (hosted (length (now (answer .entry))) (reading (now (sheet .entry))) (checkOutcome (reading (now (sheet .entry))))) ⌝ }
-    ensures answers { λ r. ⌜ now (answer .exit) ≡ answered (hosted (length (now (answer .entry))) (reading (now (sheet .entry))) (checkOutcome (reading (now (sheet .entry))))) (now (answer .entry)) ⌝ }
+    ensures returned { λ r. ⌜ r ≡ code (hostCheck (before sheet) (before answer)) ⌝ }
+    ensures answers { λ r. ⌜ after answer ≡ answered (hostCheck (before sheet) (before answer)) (before answer) ⌝ }
 {
-    if answer.len() < 24 {
+    if answer.len() < ANSWER_BYTES {
         return answers::without_room(sheet);
     }
     let checked = loader::check(sheet);
-    answers::answer_check(checked, answer)
+    answers::put(answers::of_check(checked), answer)
 }
 
 #[no_mangle]
 pub extern "C" fn toqhaymi_load_most(sheet: &[u8], table: &mut [u8], answer: &mut [u8]) -> u64
-    ensures returned { λ r. ⌜ r ≡ code (hosted (length (now (answer .entry))) (reading (now (sheet .entry))) (loadOutcome (loadMost (now (sheet .entry)) (length (now (table .entry)))))) ⌝ }
-    ensures bytes { λ r. ⌜ now (table .exit) ≡ hostedBuffer (length (now (answer .entry))) (now (table .entry)) (afterLoading (loadMost (now (sheet .entry)) (length (now (table .entry)))) (now (table .entry))) ⌝ }
-    ensures answers { λ r. ⌜ now (answer .exit) ≡ answered (hosted (length (now (answer .entry))) (reading (now (sheet .entry))) (loadOutcome (loadMost (now (sheet .entry)) (length (now (table .entry)))))) (now (answer .entry)) ⌝ }
+    ensures returned { λ r. ⌜ r ≡ code (hostMost (before sheet) (before table) (before answer)) ⌝ }
+    ensures bytes { λ r. ⌜ after table ≡ hostTable (loadMost (before sheet)) (before table) (before answer) ⌝ }
+    ensures answers { λ r. ⌜ after answer ≡ answered (hostMost (before sheet) (before table) (before answer)) (before answer) ⌝ }
 {
-    if answer.len() < 24 {
+    if answer.len() < ANSWER_BYTES {
         return answers::without_room(sheet);
     }
     let loaded = loader::load_most(sheet, table);
-    answers::answer_load(loaded, answer)
+    answers::put(answers::of_load(loaded), answer)
 }
 
 #[no_mangle]
@@ -41,15 +38,15 @@ pub extern "C" fn toqhaymi_load_target(
     table: &mut [u8],
     answer: &mut [u8],
 ) -> u64
-    ensures returned { λ r. ⌜ r ≡ code (hosted (length (now (answer .entry))) (reading (now (sheet .entry))) (loadOutcome (loadTarget (now (sheet .entry)) target (length (now (table .entry)))))) ⌝ }
-    ensures bytes { λ r. ⌜ now (table .exit) ≡ hostedBuffer (length (now (answer .entry))) (now (table .entry)) (afterLoading (loadTarget (now (sheet .entry)) target (length (now (table .entry)))) (now (table .entry))) ⌝ }
-    ensures answers { λ r. ⌜ now (answer .exit) ≡ answered (hosted (length (now (answer .entry))) (reading (now (sheet .entry))) (loadOutcome (loadTarget (now (sheet .entry)) target (length (now (table .entry)))))) (now (answer .entry)) ⌝ }
+    ensures returned { λ r. ⌜ r ≡ code (hostTarget (before sheet) target (before table) (before answer)) ⌝ }
+    ensures bytes { λ r. ⌜ after table ≡ hostTable (loadTarget (before sheet) target) (before table) (before answer) ⌝ }
+    ensures answers { λ r. ⌜ after answer ≡ answered (hostTarget (before sheet) target (before table) (before answer)) (before answer) ⌝ }
 {
-    if answer.len() < 24 {
+    if answer.len() < ANSWER_BYTES {
         return answers::without_room(sheet);
     }
     let loaded = loader::load_target(sheet, target, table);
-    answers::answer_load(loaded, answer)
+    answers::put(answers::of_load(loaded), answer)
 }
 
 #[no_mangle]
@@ -59,15 +56,15 @@ pub extern "C" fn toqhaymi_refit(
     table: &mut [u8],
     answer: &mut [u8],
 ) -> u64
-    ensures returned { λ r. ⌜ r ≡ code (hosted (length (now (answer .entry))) (reading (now (sheet .entry))) (refitOutcome (refit (now (sheet .entry)) (now (start .entry)) (length (now (table .entry)))))) ⌝ }
-    ensures bytes { λ r. ⌜ now (table .exit) ≡ hostedBuffer (length (now (answer .entry))) (now (table .entry)) (afterLoading (refit (now (sheet .entry)) (now (start .entry)) (length (now (table .entry)))) (now (table .entry))) ⌝ }
-    ensures answers { λ r. ⌜ now (answer .exit) ≡ answered (hosted (length (now (answer .entry))) (reading (now (sheet .entry))) (refitOutcome (refit (now (sheet .entry)) (now (start .entry)) (length (now (table .entry)))))) (now (answer .entry)) ⌝ }
+    ensures returned { λ r. ⌜ r ≡ code (hostRefit (before sheet) (before start) (before table) (before answer)) ⌝ }
+    ensures bytes { λ r. ⌜ after table ≡ hostTable (refit (before sheet) (before start)) (before table) (before answer) ⌝ }
+    ensures answers { λ r. ⌜ after answer ≡ answered (hostRefit (before sheet) (before start) (before table) (before answer)) (before answer) ⌝ }
 {
-    if answer.len() < 24 {
+    if answer.len() < ANSWER_BYTES {
         return answers::without_room(sheet);
     }
     let refitted = loader::refit(sheet, start, table);
-    answers::answer_refit(refitted, answer)
+    answers::put(answers::of_refit(refitted), answer)
 }
 
 #[no_mangle]
@@ -77,26 +74,26 @@ pub extern "C" fn toqhaymi_refit_step(
     table: &mut [u8],
     answer: &mut [u8],
 ) -> u64
-    ensures returned { λ r. ⌜ r ≡ code (hosted (length (now (answer .entry))) (reading (now (sheet .entry))) (refitOutcome (oneStep (now (sheet .entry)) (now (start .entry)) (length (now (table .entry)))))) ⌝ }
-    ensures bytes { λ r. ⌜ now (table .exit) ≡ hostedBuffer (length (now (answer .entry))) (now (table .entry)) (afterLoading (oneStep (now (sheet .entry)) (now (start .entry)) (length (now (table .entry)))) (now (table .entry))) ⌝ }
-    ensures answers { λ r. ⌜ now (answer .exit) ≡ answered (hosted (length (now (answer .entry))) (reading (now (sheet .entry))) (refitOutcome (oneStep (now (sheet .entry)) (now (start .entry)) (length (now (table .entry)))))) (now (answer .entry)) ⌝ }
+    ensures returned { λ r. ⌜ r ≡ code (hostStep (before sheet) (before start) (before table) (before answer)) ⌝ }
+    ensures bytes { λ r. ⌜ after table ≡ hostTable (oneStep (before sheet) (before start)) (before table) (before answer) ⌝ }
+    ensures answers { λ r. ⌜ after answer ≡ answered (hostStep (before sheet) (before start) (before table) (before answer)) (before answer) ⌝ }
 {
-    if answer.len() < 24 {
+    if answer.len() < ANSWER_BYTES {
         return answers::without_room(sheet);
     }
     let refitted = loader::refit_step(sheet, start, table);
-    answers::answer_refit(refitted, answer)
+    answers::put(answers::of_refit(refitted), answer)
 }
 
 #[no_mangle]
 pub extern "C" fn toqhaymi_tidy(sheet: &[u8], tidy: &mut [u8], answer: &mut [u8]) -> u64
-    ensures returned { λ r. ⌜ r ≡ code (hosted (length (now (answer .entry))) (reading (now (sheet .entry))) (tidyOutcome (reading (now (sheet .entry))) (length (now (tidy .entry))))) ⌝ }
-    ensures bytes { λ r. ⌜ now (tidy .exit) ≡ hostedBuffer (length (now (answer .entry))) (now (tidy .entry)) (afterTidying (reading (now (sheet .entry))) (now (tidy .entry))) ⌝ }
-    ensures answers { λ r. ⌜ now (answer .exit) ≡ answered (hosted (length (now (answer .entry))) (reading (now (sheet .entry))) (tidyOutcome (reading (now (sheet .entry))) (length (now (tidy .entry))))) (now (answer .entry)) ⌝ }
+    ensures returned { λ r. ⌜ r ≡ code (hostTidy (before sheet) (before tidy) (before answer)) ⌝ }
+    ensures bytes { λ r. ⌜ after tidy ≡ hostTidied (before sheet) (before tidy) (before answer) ⌝ }
+    ensures answers { λ r. ⌜ after answer ≡ answered (hostTidy (before sheet) (before tidy) (before answer)) (before answer) ⌝ }
 {
-    if answer.len() < 24 {
+    if answer.len() < ANSWER_BYTES {
         return answers::without_room(sheet);
     }
     let tidied = loader::tidy(sheet, tidy);
-    answers::answer_tidy(tidied, answer)
+    answers::put(answers::of_tidy(tidied), answer)
 }

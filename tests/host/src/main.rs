@@ -3,8 +3,10 @@
 mod calls;
 mod compare;
 mod damage;
+mod documents;
 mod guard;
 mod inputs;
+mod named;
 mod paper;
 mod program;
 mod random;
@@ -47,6 +49,9 @@ fn run(words: &[&str]) -> Result<String, String> {
         }
         ["printed", path] => program::printed_for(Path::new(path)),
         ["speed"] => Ok(speed::table()),
+        ["stack", most] => speed::stack(number(most)?),
+        ["named"] => named::check(),
+        ["documents", folder, without @ ..] => documents::run(Path::new(folder), without),
         _ => Err(format!("not understood: {}", words.join(" "))),
     }
 }

@@ -15,7 +15,7 @@ use std::time::Duration;
 pub const SHEETS: u64 = 600;
 const SEED: u64 = 2;
 /// The examples that there must be.
-const EXAMPLES: [&str; 3] = ["long_cable", "short_cable", "spliced_pair"];
+const EXAMPLES: [&str; 5] = ["long_cable", "refused", "sample", "short_cable", "spliced_pair"];
 /// Sheets that any comparison should have, before the random ones.
 const FIXED: u64 = 9;
 
@@ -140,7 +140,7 @@ pub fn example(program: &Path, path: &Path) -> Result<(), String> {
 }
 
 /// Every sheet of a folder, the named ones among them; a file of any other kind
-/// is a mistake.
+/// than a sheet, its output or a program is a mistake.
 pub fn examples(program: &Path, folder: &Path) -> Result<String, String> {
     let told = |error: std::io::Error| format!("{}: {error}", folder.display());
     let mut paths: Vec<PathBuf> = Vec::new();
@@ -162,7 +162,8 @@ pub fn examples(program: &Path, folder: &Path) -> Result<String, String> {
                 count += 1;
             }
             Some("out") if other("hex") => {}
-            _ => return Err(format!("{} is no example and no output of one", path.display())),
+            Some("c") => {}
+            _ => return Err(format!("{} is no example", path.display())),
         }
     }
     Ok(format!("{count} sheets"))

@@ -13,6 +13,8 @@ use std::time::{Duration, Instant};
 const ROUNDS: usize = 41;
 /// A round has as many calls as take about so long.
 const ROUND: Duration = Duration::from_millis(1);
+/// How many tones the lines have.
+const TONES: [usize; 3] = [16, 64, 256];
 
 /// A line to be timed: a cable, or four costs whose steps meet all the time.
 #[derive(Clone, Copy)]
@@ -92,18 +94,26 @@ fn time(calls: u32, mut call: impl FnMut() -> u64) -> f64 {
     begin.elapsed().as_secs_f64() / f64::from(calls)
 }
 
+/// Sheet, start, table and answer of a call, each a vector of its own.
+fn lent(call: Call, input: &Input) -> [Vec<u8>; 4] {
+    let table = call.destination(input).to_vec();
+    [input.sheet.clone(), input.start.clone(), table, input.answer.clone()]
+}
+
+fn buffers(lent: &mut [Vec<u8>; 4]) -> [Buffer; 4] {
+    lent.each_mut().map(|bytes| (bytes.as_mut_ptr(), bytes.len()))
+}
+
 fn row(call: Call, input: &Input) -> String {
     assert_eq!(calls::ours(call, input).as_ref(), Ok(&calls::papers(call, input)));
-    let (mut sheet, mut start) = (input.sheet.clone(), input.start.clone());
-    let (mut table, mut answer) = (call.destination(input).to_vec(), input.answer.clone());
-    let buffer = |bytes: &mut Vec<u8>| -> Buffer { (bytes.as_mut_ptr(), bytes.len()) };
-    let buffers = [&mut sheet, &mut start, &mut table, &mut answer].map(buffer);
+    let mut lent = lent(call, input);
+    let buffers = buffers(&mut lent);
     let ours = || {
         let [sheet, start, table, answer] = black_box(buffers);
         // SAFETY: four vectors, each with its own length.
         unsafe { call.ours(sheet, start, black_box(input.target), table, answer) }
     };
-    let (mut table, mut answer) = (table.clone(), answer.clone());
+    let (mut table, mut answer) = (call.destination(input).to_vec(), input.answer.clone());
     let mut papers = || {
         let (sheet, start) = (black_box(&input.sheet), black_box(&input.start));
         call.papers(sheet, start, black_box(input.target), &mut table, &mut answer)
@@ -125,7 +135,7 @@ fn row(call: Call, input: &Input) -> String {
 pub fn table() -> String {
     let mut table =
         "tones line          call          ours us  paper us   ratio   stack\n".to_string();
-    for tones in [16, 64, 256] {
+    for tones in TONES {
         for shape in SHAPES {
             let input = shape.input(tones);
             for call in Call::ALL {
@@ -134,4 +144,23 @@ pub fn table() -> String {
         }
     }
     table
+}
+
+/// The stack of every call on every line, against the most that the header states.
+pub fn stack(most: u64) -> Result<String, String> {
+    let mut largest = 0;
+    for (tones, shape) in TONES.into_iter().flat_map(|tones| SHAPES.map(|shape| (tones, shape))) {
+        let input = shape.input(tones);
+        for call in Call::ALL {
+            let mut lent = lent(call, &input);
+            // SAFETY: four vectors, each with its own length.
+            let used = unsafe { stack::used(call, buffers(&mut lent), input.target) };
+            largest = largest.max(used as u64);
+        }
+    }
+    let said = format!("{largest} bytes at most; the header states {most}");
+    if largest > most {
+        return Err(said);
+    }
+    Ok(said)
 }

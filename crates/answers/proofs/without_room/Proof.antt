@@ -4,21 +4,6 @@ use Rattle.answers.proofs.Stored.{without-room}
 use Rattle.answers.proofs.without_room.Statement.{statement}
 use Rattle.answers.proofs.without_room.Tie as tie
 
-check-requires : tie.Need-check-requires
-check-requires c κs = search needs
-
-enum-known-checked : tie.Need-enum-known-checked
-enum-known-checked c = search needs
-
-refused-requires : tie.Need-refused-requires
-refused-requires c κs = search needs
-
-enum-told : tie.Need-enum-told
-enum-told c = search needs
-
-refused-requires-2 : tie.Need-refused-requires-2
-refused-requires-2 c κs = search needs
-
 returns : tie.Need-returns
 returns c = without-room _ (c .before .before .before .before .check .ensures .0) (c .before .before .checked .given .1) (c .refused .ensures)
 
@@ -30,10 +15,10 @@ pub without-room-spec : {M : Type 1} → statement M
 without-room-spec =
     tie.close
     (tie.spec
-    check-requires
-    enum-known-checked
-    refused-requires
-    enum-told
-    refused-requires-2
+    (λ c κs. search needs)
+    (λ c. search needs)
+    (λ c κs. search needs)
+    (λ c. search needs)
+    (λ c κs. search needs)
     returns
     returns-2)

@@ -3,7 +3,7 @@ use mathlib.Core.Path.{sym}
 use mathlib.Core.Logic.{⊎-elim}
 use native.Mathlib.Omega.{arith}
 use borrow.Author.Tests.{ne-eqb}
-use Rattle.command.proofs.Rows.{allowed-late, none-late, four-or-five}
+use Rattle.command.proofs.Rows.{rows-late, none-late, four-or-five}
 use Rattle.command.proofs.command_bytes.Statement.{statement}
 use Rattle.command.proofs.command_bytes.Tie as tie
 
@@ -26,14 +26,14 @@ returns-6 : tie.Need-returns-6
 returns-6 c = rw (c .before .if5 .taken, ne-eqb _ _ (c .if6 .left))
 
 returns-7 : tie.Need-returns-7
-returns-7 c = rw (allowed-late (c .before .before .before .before .args .stage) (omega arith), c .match .keys1)
+returns-7 c = rw (rows-late (c .before .before .before .before .args .stage) (omega arith), c .match .keys1)
 
 returns-8 : tie.Need-returns-8
-returns-8 c = rw (allowed-late (c .before .before .before .before .args .stage) (omega arith), c .match .keys2)
+returns-8 c = rw (rows-late (c .before .before .before .before .args .stage) (omega arith), c .match .keys2)
 
 returns-9 : tie.Need-returns-9
 returns-9 c =
-    rw (allowed-late (c .before .before .before .before .before .before .args .stage) (omega arith))
+    rw (rows-late (c .before .before .before .before .before .before .args .stage) (omega arith))
     (⊎-elim (λ e. rw e) (λ e. rw e) (four-or-five (c .before .before .before .before .before .before .args .code) (c .before .if7 .left) (c .if8 .taken)))
 
 returns-10 : tie.Need-returns-10

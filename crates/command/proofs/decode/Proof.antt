@@ -5,7 +5,8 @@ use native.Mathlib.Omega.{arith}
 use borrow.Author.Needs.{needs}
 use borrow.Author.Tests.{le-leb}
 use lib.ListN.{getD}
-use Rattle.command.specs.Rows.{bytesOf, decoded}
+use Rattle.command.specs.Rows.{bytesOf}
+use Rattle.command.specs.Format.{decoded}
 use Rattle.command.proofs.Rows.{IsAllowed, row-found, command-too-long, command-at, no-row, row-cut, row-whole}
 use Rattle.command.proofs.decode.Statement.{statement}
 use Rattle.command.proofs.decode.Tie as tie
@@ -20,30 +21,15 @@ is-allowed c = row-found _ (code (c .before .before .before .before .before .bef
 returns : tie.Need-returns
 returns c = sym (command-too-long _ _ _ _ _ (c .if1 .taken))
 
-cast-t13 : tie.Need-cast-t13
-cast-t13 c = search needs
-
 returns-2 : tie.Need-returns-2
 unfolding decoded
 returns-2 c = sym (command-at _ _ _ _ _ (c .before .if1 .left) ∙ rw (le-leb _ _ (c .if2 .taken)))
-
-shared-slice-read-code : tie.Need-shared-slice-read-code
-shared-slice-read-code c = search needs
-
-command-bytes-requires : tie.Need-command-bytes-requires
-command-bytes-requires c κs = search needs
-
-cast-t18 : tie.Need-cast-t18
-cast-t18 c = search needs
 
 returns-3 : tie.Need-returns-3
 returns-3 c =
     sym
     (command-at _ _ _ _ _ (c .before .before .before .before .if1 .left)
     ∙ no-row _ _ _ _ _ _ (c .before .before .before .if2 .left) (c .before .command-bytes .ensures) (c .if3 .taken))
-
-sub-if4 : tie.Need-sub-if4
-sub-if4 c = search needs
 
 returns-4 : tie.Need-returns-4
 returns-4 c =
@@ -53,13 +39,9 @@ returns-4 c =
 
 operands-requires : tie.Need-operands-requires
 operands-requires c κs = (
-  omega (arith, c .before .before .command-bytes .ensures ∙ ap bytesOf (is-allowed (c .before) .row)),
-  c .before .before .before .before .before .if1 .left,
   is-allowed (c .before) .low,
+  (omega (arith, c .before .before .command-bytes .ensures ∙ ap bytesOf (is-allowed (c .before) .row)), c .before .before .before .before .before .if1 .left),
 )
-
-add-t21 : tie.Need-add-t21
-add-t21 c = search needs
 
 returns-5 : tie.Need-returns-5
 returns-5 c =
@@ -73,14 +55,14 @@ decode-spec =
     tie.close
     (tie.spec
     returns
-    cast-t13
+    (λ c. search needs)
     returns-2
-    shared-slice-read-code
-    command-bytes-requires
-    cast-t18
+    (λ c. search needs)
+    (λ c κs. search needs)
+    (λ c. search needs)
     returns-3
-    sub-if4
+    (λ c. search needs)
     returns-4
     operands-requires
-    add-t21
+    (λ c. search needs)
     returns-5)

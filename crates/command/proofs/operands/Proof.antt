@@ -8,11 +8,8 @@ use Rattle.command.proofs.Rows.{tone-row, tone-width, end-row}
 use Rattle.command.proofs.operands.Statement.{statement}
 use Rattle.command.proofs.operands.Tie as tie
 
-header-command-requires : tie.Need-header-command-requires
-header-command-requires c κs = search needs
-
 returns : tie.Need-returns
-returns c = c .header-command .ensures _ _
+returns c = c .header-command .ensures _
 
 tone-command-requires : tie.Need-tone-command-requires
 tone-command-requires c κs =
@@ -27,7 +24,7 @@ returns-2 c =
     c .tone-command .ensures ∙ ap (rowAt _ _ _ _) (tone-row (c .before .before .before .before .args .code) (c .before .before .if1 .left) (c .before .if2 .taken))
 
 silence-command-requires : tie.Need-silence-command-requires
-silence-command-requires c κs = omega (arith, rw (c .if3 .taken) at (c .before .before .before .before .pre .0))
+silence-command-requires c κs = omega (arith, rw (c .if3 .taken) at (c .before .before .before .before .pre .1 .0))
 
 returns-3 : tie.Need-returns-3
 returns-3 c = rw (c .before .if3 .taken) (c .silence-command .ensures _)
@@ -40,7 +37,7 @@ pub operands-spec : {M : Type 1} → statement M
 operands-spec =
     tie.close
     (tie.spec
-    header-command-requires
+    (λ c κs. search needs)
     returns
     tone-command-requires
     returns-2

@@ -10,10 +10,6 @@ use Rattle.line.proofs.Growth.{power-zero}
 use Rattle.line.proofs.Limits.{Tried, cap-high, mask-stops, cap-stops}
 use Rattle.line.proofs.limit.Statement.{statement}
 use Rattle.line.proofs.limit.Tie as tie
-use Rattle.line.proofs.limit.Reads as reads
-use Rattle.line.proofs.limit.Lts as lts
-use Rattle.line.proofs.carried.Reads as carried-reads
-use Rattle.line.proofs.power.Reads as power-reads
 
 abbrev Inv-loop : tie.InvT-loop
 Inv-loop tone cost n cap bits₀ bits = Tried tone cost bits
@@ -24,9 +20,6 @@ abbrev μ-loop : tie.MeasureT-loop
 -- one bit more is within the cap
 below : (c : tie.In-loop Inv-loop μ-loop) → c .before .loop .bits + 1 ≤ carried (c .before .before .before .args .tone) .cap
 below c = omega (arith, c .loop-test .taken, ap (λ (n : Numbers). n .cap) (c .before .before .carried .ensures))
-
-carried-requires : tie.Need-carried-requires Inv-loop μ-loop
-carried-requires c κs = search needs
 
 loop-holds : tie.Need-loop-holds Inv-loop μ-loop
 loop-holds c = record { at-most = omega arith; under = omega (arith, power-zero (c .before .args .tone) (c .before .args .cost)) }
@@ -66,7 +59,7 @@ limit-spec =
     (tie.spec
     Inv-loop
     μ-loop
-    carried-requires
+    (λ c κs. search needs)
     loop-holds
     add-power
     power-requires

@@ -6,9 +6,6 @@ use Rattle.line.proofs.Growth.{power-is, shift-at-most}
 use Rattle.line.proofs.power.Statement.{statement}
 use Rattle.line.proofs.power.Tie as tie
 
-doublings-requires : tie.Need-doublings-requires
-doublings-requires c κs = search needs
-
 power-at-requires : tie.Need-power-at-requires
 power-at-requires c κs =
     let a = c .before in
@@ -20,4 +17,4 @@ returns c =
     c .power-at .ensures ∙ rw (c .before .doublings .ensures) (sym (power-is (a .tone) (a .cost) (a .bits)))
 
 pub power-spec : {M : Type 1} → statement M
-power-spec = tie.close (tie.spec doublings-requires power-at-requires returns)
+power-spec = tie.close (tie.spec (λ c κs. search needs) power-at-requires returns)

@@ -13,15 +13,6 @@ exact : (c : tie.Start) → (c .args .cost * 2 ^ (c .args .doublings * c .args .
     ≡ c .args .cost * 2 ^ (c .args .doublings * c .args .bits)
 exact c = shl-exact 24 (c .args .doublings * c .args .bits) 64 (c .pre .0) (omega (arith, c .pre .1))
 
-mul-result : tie.Need-mul-result
-mul-result c = search needs
-
-cast-result : tie.Need-cast-result
-cast-result c = search needs
-
-shl-result : tie.Need-shl-result
-shl-result c = search needs
-
 sub-result : tie.Need-sub-result
 sub-result c =
     rw (exact c) (omega (arith, mul-le-mul-left (c .args .cost) (pow-pos (c .args .doublings * c .args .bits))))
@@ -30,4 +21,4 @@ returns : tie.Need-returns
 returns c = rw (exact c)
 
 pub power-at-spec : {M : Type 1} → statement M
-power-at-spec = tie.close (tie.spec mul-result cast-result shl-result sub-result returns)
+power-at-spec = tie.close (tie.spec (λ c. search needs) (λ c. search needs) (λ c. search needs) sub-result returns)

@@ -12,10 +12,7 @@ use Rattle.moves.proofs.take_if_fits.Tie as tie
 
 returns : tie.Need-returns
 unfolding takeIfFits noStep
-returns c = λ T t latest K. rw (no-free K (c .if1 .taken))
-
-step-at-requires : tie.Need-step-at-requires
-step-at-requires c κs = search needs
+returns c = λ T t K. rw (no-free K (c .if1 .taken))
 
 add-if2 : tie.Need-add-if2
 add-if2 c =
@@ -24,11 +21,11 @@ add-if2 c =
 
 returns-2 : tie.Need-returns-2
 unfolding noStep
-returns-2 c = λ T t latest K. does-not-fit K (free-at K (c .before .before .step-at .ensures) (c .before .before .before .if1 .left)) (c .if2 .taken)
+returns-2 c = λ T t K. does-not-fit K (free-at K (c .before .before .step-at .ensures) (c .before .before .before .if1 .left)) (c .if2 .taken)
 
 returns-3 : tie.Need-returns-3
 unfolding noStep
-returns-3 c = λ T t latest K. let F = free-at K (c .before .before .step-at .ensures) (c .before .before .before .if1 .left) in (fitting K F (c .if2 .left), F)
+returns-3 c = λ T t K. let F = free-at K (c .before .before .step-at .ensures) (c .before .before .before .if1 .left) in (fitting K F (c .if2 .left), F)
 
 pub take-if-fits-spec : {M : Type 1} → statement M
-take-if-fits-spec = tie.close (tie.spec returns step-at-requires add-if2 returns-2 returns-3)
+take-if-fits-spec = tie.close (tie.spec returns (λ c κs. search needs) add-if2 returns-2 returns-3)

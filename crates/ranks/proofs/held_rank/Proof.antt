@@ -10,17 +10,14 @@ use Rattle.ranks.proofs.Sizes.{size-high}
 use Rattle.ranks.proofs.held_rank.Statement.{statement}
 use Rattle.ranks.proofs.held_rank.Tie as tie
 
-sub-step-size : tie.Need-sub-step-size
-sub-step-size c = search needs
-
 step-size-requires : tie.Need-step-size-requires
-step-size-requires c κs = (c .before .pre .1, le-trans (mul-le-mul-left (c .before .args .doublings) (omega arith)) (c .before .pre .2), omega arith)
+step-size-requires c κs = (c .before .pre .1 .0, (le-trans (mul-le-mul-left (c .before .args .doublings) (omega arith)) (c .before .pre .1 .1), omega arith))
 
 small : (c : tie.After-step-size) → c .step-size .result < 2 ^ 39
 small c =
     let a = c .before .before .args in
     let p = step-size-requires (c .before) _ in
-    rw (c .step-size .ensures) (size-high (a .cost) (a .doublings) (a .bits - 1) (p .0) (p .1))
+    rw (c .step-size .ensures) (size-high (a .cost) (a .doublings) (a .bits - 1) (p .0) (p .1 .0))
 
 mul-result : tie.Need-mul-result
 mul-result c = record { fits = omega (arith, small c) }
@@ -42,4 +39,4 @@ returns-2 c = let a = c .before .args in rw (le-ltb 0 (a .bits) (omega arith)) r
 pub held-rank-spec : {M : Type 1} → statement M
 held-rank-spec =
     tie.close
-    (tie.spec sub-step-size step-size-requires mul-result add-result sub-result returns returns-2)
+    (tie.spec (λ c. search needs) step-size-requires mul-result add-result sub-result returns returns-2)

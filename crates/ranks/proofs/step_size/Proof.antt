@@ -6,16 +6,13 @@ use Rattle.ranks.proofs.Sizes.{shift-less, power-less}
 use Rattle.ranks.proofs.step_size.Statement.{statement}
 use Rattle.ranks.proofs.step_size.Tie as tie
 
-add-power-at : tie.Need-add-power-at
-add-power-at c = search needs
-
 power-at-requires : tie.Need-power-at-requires
-power-at-requires c κs = (c .pre .0, rw (add-one (c .args .bits)) (c .pre .1))
+power-at-requires c κs = (c .pre .0, rw (add-one (c .args .bits)) (c .pre .1 .0))
 
 power-at-requires-2 : tie.Need-power-at-requires-2
 power-at-requires-2 c κs =
     let a = c .before in
-    (a .pre .0, le-trans (shift-less (a .args .doublings) (a .args .bits)) (a .pre .1))
+    (a .pre .0, le-trans (shift-less (a .args .doublings) (a .args .bits)) (a .pre .1 .0))
 
 sub-result : tie.Need-sub-result
 sub-result c =
@@ -27,4 +24,4 @@ returns c = rw (c .before .power-at .ensures, c .power-at2 .ensures, add-one (c 
 
 pub step-size-spec : {M : Type 1} → statement M
 step-size-spec =
-    tie.close (tie.spec add-power-at power-at-requires power-at-requires-2 sub-result returns)
+    tie.close (tie.spec (λ c. search needs) power-at-requires power-at-requires-2 sub-result returns)

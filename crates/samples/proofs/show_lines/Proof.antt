@@ -11,53 +11,20 @@ Inv-loop text at₀ at = Unit
 abbrev μ-loop : tie.MeasureT-loop
 μ-loop text at₀ at = length text - at
 
-loop-holds : tie.Need-loop-holds Inv-loop μ-loop
-loop-holds c = search needs
-
-find-requires : tie.Need-find-requires Inv-loop μ-loop
-find-requires c κs = search needs
-
-sub-show-line : tie.Need-sub-show-line Inv-loop μ-loop
-sub-show-line c = search needs
-
-part-show-line-start : tie.Need-part-show-line-start Inv-loop μ-loop
-part-show-line-start c = search needs
-
-part-show-line-end : tie.Need-part-show-line-end Inv-loop μ-loop
-part-show-line-end c = search needs
-
-show-line-requires : tie.Need-show-line-requires Inv-loop μ-loop
-show-line-requires c κs = search needs
-
-add-at : tie.Need-add-at Inv-loop μ-loop
-add-at c = search needs
-
-loop-less : tie.Need-loop-less Inv-loop μ-loop
-loop-less c = search needs
-
-loop-again : tie.Need-loop-again Inv-loop μ-loop
-loop-again c = search needs
-
-returns : tie.Need-returns Inv-loop μ-loop
-returns c = search needs
-
-returns-2 : tie.Need-returns-2 Inv-loop μ-loop
-returns-2 c = search needs
-
 pub show-lines-spec : {M : Type 1} → statement M
 show-lines-spec =
     tie.close
     (tie.spec
     Inv-loop
     μ-loop
-    loop-holds
-    find-requires
-    sub-show-line
-    part-show-line-start
-    part-show-line-end
-    show-line-requires
-    add-at
-    loop-less
-    loop-again
-    returns
-    returns-2)
+    (λ c. search needs)
+    (λ c κs. search needs)
+    (λ c. search needs)
+    (λ c. search needs)
+    (λ c. search needs)
+    (λ c κs. search needs)
+    (λ c. search needs)
+    (λ c. search needs)
+    (λ c. search needs)
+    (λ c. search needs)
+    (λ c. search needs))

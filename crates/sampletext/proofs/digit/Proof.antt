@@ -7,9 +7,6 @@ use Rattle.sampletext.specs.Text.{digitOf}
 use Rattle.sampletext.proofs.digit.Statement.{statement}
 use Rattle.sampletext.proofs.digit.Tie as tie
 
-add-result : tie.Need-add-result
-add-result c = search needs
-
 returns : tie.Need-returns
 unfolding digitOf
 returns c = (rw (le-leb 48 _ (c .before .if1 .left), le-leb _ 57 (le-of-suc-le-suc (c .if2 .taken))), omega arith)
@@ -31,4 +28,4 @@ unfolding digitOf
 returns-5 c = (rw (le-leb 48 _ (c .before .before .before .if1 .left), lt-leb _ 57 (c .before .before .if2 .left), le-leb 97 _ (c .before .if3 .left), lt-leb _ 102 (c .if4 .left)), omega arith)
 
 pub digit-spec : {M : Type 1} → statement M
-digit-spec = tie.close (tie.spec add-result returns returns-2 returns-3 returns-4 returns-5)
+digit-spec = tie.close (tie.spec (λ c. search needs) returns returns-2 returns-3 returns-4 returns-5)

@@ -1,11 +1,12 @@
 -- `sampletext::filled` meets its contract. Assumes nothing.
 use mathlib.Core.Path.{refl}
 use lib.ListN.{getD-replicate}
+use Rattle.sampletext.specs.Text.{room, fill}
 use Rattle.sampletext.proofs.filled.Statement.{statement}
 use Rattle.sampletext.proofs.filled.Tie as tie
 
 returns : tie.Need-returns
-returns c = (refl, λ i l. getD-replicate 4200 i 165 0 l)
+returns c = (refl, λ i l. getD-replicate room i fill 0 l)
 
 pub filled-spec : {M : Type 1} → statement M
 filled-spec = tie.close (tie.spec returns)

@@ -4,14 +4,14 @@ use mathlib.Core.Path.{_≡_}
 use native.Mathlib.Omega.{arith}
 use borrow.Author.Tests.{not-true, not-false}
 use lib.ListN.{length, drop}
-use Rattle.sampletext.specs.Text.{before}
-use Rattle.sampletext.proofs.Characters.{before-end, before-found, before-next}
+use Rattle.sampletext.specs.Text.{skipped}
+use Rattle.sampletext.proofs.Characters.{skipped-end, skipped-found, skipped-next}
 use Rattle.sampletext.proofs.find.Statement.{statement}
 use Rattle.sampletext.proofs.find.Tie as tie
 
 abbrev Inv-loop : tie.InvT-loop
 Inv-loop text from wanted i₀ i =
-    (i + before (drop i text) wanted ≡ from + before (drop from text) wanted) × (from ≤ i) × (i ≤ max from (length text))
+    (i + skipped (drop i text) wanted ≡ from + skipped (drop from text) wanted) × (from ≤ i) × (i ≤ max from (length text))
 
 abbrev μ-loop : tie.MeasureT-loop
 μ-loop text from wanted i₀ i = length text - i
@@ -29,13 +29,13 @@ loop-less : tie.Need-loop-less Inv-loop μ-loop
 loop-less c = omega arith
 
 loop-again : tie.Need-loop-again Inv-loop μ-loop
-loop-again c = omega (arith, before-next (c .before .before .before .before .args .text .now) _ (c .before .before .loop-test .taken) _ (not-true _ (c .if1 .taken)))
+loop-again c = omega (arith, skipped-next (c .before .before .before .before .args .text .now) _ (c .before .before .loop-test .taken) _ (not-true _ (c .if1 .taken)))
 
 returns : tie.Need-returns Inv-loop μ-loop
-returns c = omega (arith, before-found (c .before .before .before .before .args .text .now) _ (c .before .before .loop-test .taken) _ (not-false _ (c .if1 .left)))
+returns c = omega (arith, skipped-found (c .before .before .before .before .args .text .now) _ (c .before .before .loop-test .taken) _ (not-false _ (c .if1 .left)))
 
 returns-2 : tie.Need-returns-2 Inv-loop μ-loop
-returns-2 c = omega (arith, before-end (c .before .before .args .text .now) _ (c .loop-test .left) (c .before .before .args .wanted))
+returns-2 c = omega (arith, skipped-end (c .before .before .args .text .now) _ (c .loop-test .left) (c .before .before .args .wanted))
 
 pub find-spec : {M : Type 1} → statement M
 find-spec =

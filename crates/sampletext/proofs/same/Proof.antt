@@ -5,7 +5,7 @@ use Prim.Native.Nat.{_-_}
 use native.Mathlib.Omega.{arith}
 use borrow.Author.Count.{below-more}
 use borrow.Author.Needs.{needs}
-use Rattle.sampletext.specs.Text.{SameBytes}
+use Rattle.sampletext.specs.Text.{room, SameBytes}
 use Rattle.sampletext.proofs.same.Statement.{statement}
 use Rattle.sampletext.proofs.same.Tie as tie
 
@@ -13,25 +13,13 @@ abbrev Inv-loop : tie.InvT-loop
 Inv-loop a b i₀ i = SameBytes i a b
 
 abbrev μ-loop : tie.MeasureT-loop
-μ-loop a b i₀ i = 4200 - i
+μ-loop a b i₀ i = room - i
 
 loop-holds : tie.Need-loop-holds Inv-loop μ-loop
 loop-holds c = λ j l. absurd (omega arith)
 
-element-copy-out-if1 : tie.Need-element-copy-out-if1 Inv-loop μ-loop
-element-copy-out-if1 c = search needs
-
-element-copy-out-if1-2 : tie.Need-element-copy-out-if1-2 Inv-loop μ-loop
-element-copy-out-if1-2 c = search needs
-
 returns : tie.Need-returns Inv-loop μ-loop
 returns c = (λ e. absurd (true≢false (sym e)), λ e s. c .if1 .taken (s (c .before .before .before .before .loop .i) (omega arith)))
-
-add-i : tie.Need-add-i Inv-loop μ-loop
-add-i c = search needs
-
-loop-less : tie.Need-loop-less Inv-loop μ-loop
-loop-less c = search needs
 
 loop-again : tie.Need-loop-again Inv-loop μ-loop
 loop-again c = below-more _ _ (c .before .before .before .before .loop .inv) (c .if1 .left)
@@ -46,10 +34,10 @@ same-spec =
     Inv-loop
     μ-loop
     loop-holds
-    element-copy-out-if1
-    element-copy-out-if1-2
+    (λ c. search needs)
+    (λ c. search needs)
     returns
-    add-i
-    loop-less
+    (λ c. search needs)
+    (λ c. search needs)
     loop-again
     returns-2)

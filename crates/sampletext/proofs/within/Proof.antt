@@ -5,11 +5,8 @@ use borrow.Author.Needs.{needs}
 use Rattle.sampletext.proofs.within.Statement.{statement}
 use Rattle.sampletext.proofs.within.Tie as tie
 
-least-requires : tie.Need-least-requires
-least-requires c κs = search needs
-
 returns : tie.Need-returns
 returns c = (counts _ _ (omega arith), c .least .ensures .2)
 
 pub within-spec : {M : Type 1} → statement M
-within-spec = tie.close (tie.spec least-requires returns)
+within-spec = tie.close (tie.spec (λ c κs. search needs) returns)

@@ -4,78 +4,28 @@ use mathlib.Core.List.{List}
 use Prim.Native.Nat.{ℕ, _+_, _-_, _*_, _≤_}
 use native.Mathlib.Omega.{arith}
 use borrow.Author.Needs.{needs}
+use Rattle.sizes.specs.Sizes.{mostTones}
 use Rattle.ranks.specs.Ranks.{noStep}
 use Rattle.search.proofs.Parts.{Part, none-yet, four-more, part-least}
 use Rattle.search.proofs.least.Statement.{statement}
 use Rattle.search.proofs.least.Tie as tie
 
--- the tones below i are passed; 256 is a multiple of four, so four more are there while one is
+-- the tones below i are passed; the number of tones at most is a multiple of four, so four more are there while one is
 record Passed (ranks : List ℕ) (least i : ℕ) : Type 0 where
   turns : ℕ
   fours : i ≡ 4 * turns
-  within : i ≤ 256
+  within : i ≤ mostTones
   part : Part ranks 0 i least
 
 abbrev Inv-loop : tie.InvT-loop
 Inv-loop count ranks least₀ i₀ least i = Passed ranks least i
 
 abbrev μ-loop : tie.MeasureT-loop
-μ-loop count ranks least₀ i₀ least i = 256 - i
+μ-loop count ranks least₀ i₀ least i = mostTones - i
 
 loop-holds : tie.Need-loop-holds Inv-loop μ-loop
 unfolding noStep
 loop-holds c = record { turns = 0; fours = omega arith; within = omega arith; part = none-yet }
-
-mul-lesser : tie.Need-mul-lesser Inv-loop μ-loop
-mul-lesser c = search needs
-
-element-copy-out-lesser : tie.Need-element-copy-out-lesser Inv-loop μ-loop
-element-copy-out-lesser c = search needs
-
-add-lesser : tie.Need-add-lesser Inv-loop μ-loop
-add-lesser c = search needs
-
-mul-lesser-2 : tie.Need-mul-lesser-2 Inv-loop μ-loop
-mul-lesser-2 c = search needs
-
-element-copy-out-lesser-2 : tie.Need-element-copy-out-lesser-2 Inv-loop μ-loop
-element-copy-out-lesser-2 c = search needs
-
-lesser-requires : tie.Need-lesser-requires Inv-loop μ-loop
-lesser-requires c κs = search needs
-
-add-lesser-2 : tie.Need-add-lesser-2 Inv-loop μ-loop
-add-lesser-2 c = search needs
-
-mul-lesser-3 : tie.Need-mul-lesser-3 Inv-loop μ-loop
-mul-lesser-3 c = search needs
-
-element-copy-out-lesser-3 : tie.Need-element-copy-out-lesser-3 Inv-loop μ-loop
-element-copy-out-lesser-3 c = search needs
-
-add-lesser-3 : tie.Need-add-lesser-3 Inv-loop μ-loop
-add-lesser-3 c = search needs
-
-mul-lesser-4 : tie.Need-mul-lesser-4 Inv-loop μ-loop
-mul-lesser-4 c = search needs
-
-element-copy-out-lesser-4 : tie.Need-element-copy-out-lesser-4 Inv-loop μ-loop
-element-copy-out-lesser-4 c = search needs
-
-lesser-requires-2 : tie.Need-lesser-requires-2 Inv-loop μ-loop
-lesser-requires-2 c κs = search needs
-
-lesser-requires-3 : tie.Need-lesser-requires-3 Inv-loop μ-loop
-lesser-requires-3 c κs = search needs
-
-lesser-requires-4 : tie.Need-lesser-requires-4 Inv-loop μ-loop
-lesser-requires-4 c κs = search needs
-
-add-i : tie.Need-add-i Inv-loop μ-loop
-add-i c = search needs
-
-loop-less : tie.Need-loop-less Inv-loop μ-loop
-loop-less c = search needs
 
 loop-again : tie.Need-loop-again Inv-loop μ-loop
 loop-again c =
@@ -101,22 +51,22 @@ least-spec =
     Inv-loop
     μ-loop
     loop-holds
-    mul-lesser
-    element-copy-out-lesser
-    add-lesser
-    mul-lesser-2
-    element-copy-out-lesser-2
-    lesser-requires
-    add-lesser-2
-    mul-lesser-3
-    element-copy-out-lesser-3
-    add-lesser-3
-    mul-lesser-4
-    element-copy-out-lesser-4
-    lesser-requires-2
-    lesser-requires-3
-    lesser-requires-4
-    add-i
-    loop-less
+    (λ c. search needs)
+    (λ c. search needs)
+    (λ c. search needs)
+    (λ c. search needs)
+    (λ c. search needs)
+    (λ c κs. search needs)
+    (λ c. search needs)
+    (λ c. search needs)
+    (λ c. search needs)
+    (λ c. search needs)
+    (λ c. search needs)
+    (λ c. search needs)
+    (λ c κs. search needs)
+    (λ c κs. search needs)
+    (λ c κs. search needs)
+    (λ c. search needs)
+    (λ c. search needs)
     loop-again
     returns)

@@ -10,25 +10,16 @@ use Rattle.silence.proofs.Maps.{clear-beyond, beyond-shift}
 use Rattle.silence.proofs.names_beyond.Statement.{statement}
 use Rattle.silence.proofs.names_beyond.Tie as tie
 
-mul-first : tie.Need-mul-first
-mul-first c = search needs
-
 returns : tie.Need-returns
 returns c =
     let a = c .before .args in
     ap (λ (m : ℕ). not (eqb m 0)) (sym (div-one (a .map)))
     ∙ beyond-shift (a .size) (a .word) (a .map) 0 (c .before .fits .map .fits) (omega arith)
 
-sub-inside : tie.Need-sub-inside
-sub-inside c = search needs
-
 returns-2 : tie.Need-returns-2
 returns-2 c =
     let a = c .before .before .args in
     sym (clear-beyond (a .size) (a .word) (a .map) (λ k b h. omega arith))
-
-shr-result : tie.Need-shr-result
-shr-result c = search needs
 
 returns-3 : tie.Need-returns-3
 returns-3 c =
@@ -37,4 +28,4 @@ returns-3 c =
 
 pub names-beyond-spec : {M : Type 1} → statement M
 names-beyond-spec =
-    tie.close (tie.spec mul-first returns sub-inside returns-2 shr-result returns-3)
+    tie.close (tie.spec (λ c. search needs) returns (λ c. search needs) returns-2 (λ c. search needs) returns-3)

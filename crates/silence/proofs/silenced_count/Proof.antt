@@ -18,24 +18,9 @@ loop-holds : tie.Need-loop-holds Inv-loop μ-loop
 unfolding count
 loop-holds c = (omega arith, refl)
 
-mul-tones-in : tie.Need-mul-tones-in Inv-loop μ-loop
-mul-tones-in c = search needs
-
-element-copy-out-tones-in : tie.Need-element-copy-out-tones-in Inv-loop μ-loop
-element-copy-out-tones-in c = search needs
-
-tones-in-requires : tie.Need-tones-in-requires Inv-loop μ-loop
-tones-in-requires c κs = search needs
-
 add-n : tie.Need-add-n Inv-loop μ-loop
 add-n c =
     record { fits = omega (arith, counted-le _ _ (c .before .before .before .loop .inv .1), counted-le _ _ (c .tones-in .ensures)) }
-
-add-word : tie.Need-add-word Inv-loop μ-loop
-add-word c = search needs
-
-loop-less : tie.Need-loop-less Inv-loop μ-loop
-loop-less c = search needs
 
 loop-again : tie.Need-loop-again Inv-loop μ-loop
 loop-again c =
@@ -55,11 +40,11 @@ silenced-count-spec =
     Inv-loop
     μ-loop
     loop-holds
-    mul-tones-in
-    element-copy-out-tones-in
-    tones-in-requires
+    (λ c. search needs)
+    (λ c. search needs)
+    (λ c κs. search needs)
     add-n
-    add-word
-    loop-less
+    (λ c. search needs)
+    (λ c. search needs)
     loop-again
     returns)

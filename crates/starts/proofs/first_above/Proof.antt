@@ -5,7 +5,7 @@ use native.Mathlib.Omega.{arith}
 use borrow.Author.Count.{below-more}
 use borrow.Author.Needs.{needs}
 use lib.ListN.{length, getD}
-use Rattle.starts.proofs.Above.{none-above, above-at}
+use Rattle.starts.proofs.First.{none-above, above-at}
 use Rattle.starts.proofs.first_above.Statement.{statement}
 use Rattle.starts.proofs.first_above.Tie as tie
 
@@ -15,32 +15,17 @@ Inv-loop start limits i₀ i = (i ≤ length start) × ((j : ℕ) → j < i → 
 abbrev μ-loop : tie.MeasureT-loop
 μ-loop start limits i₀ i = length start - i
 
-loop-holds : tie.Need-loop-holds Inv-loop μ-loop
-loop-holds c = search needs
-
-element-copy-out-if1 : tie.Need-element-copy-out-if1 Inv-loop μ-loop
-element-copy-out-if1 c = search needs
-
-shared-slice-read-if1 : tie.Need-shared-slice-read-if1 Inv-loop μ-loop
-shared-slice-read-if1 c = search needs
-
 returns : tie.Need-returns Inv-loop μ-loop
 returns c = λ T same.
     let a = c .before .before .before .before in
     let i = a .loop .i in
-    sym (above-at T _ _ i (omega arith) (omega (arith, same i (omega arith))) (λ j l. omega (arith, a .loop .inv .1 j l, same j (omega arith))))
-
-add-i : tie.Need-add-i Inv-loop μ-loop
-add-i c = search needs
-
-loop-less : tie.Need-loop-less Inv-loop μ-loop
-loop-less c = search needs
+    sym (above-at T _ _ i (omega arith) (omega (arith, same .same-limit i (omega arith))) (λ j l. omega (arith, a .loop .inv .1 j l, same .same-limit j (omega arith))))
 
 loop-again : tie.Need-loop-again Inv-loop μ-loop
 loop-again c = (omega arith, below-more _ _ (c .before .before .before .before .loop .inv .1) (omega arith))
 
 returns-2 : tie.Need-returns-2 Inv-loop μ-loop
-returns-2 c = λ T same. sym (none-above T _ _ (λ j l. omega (arith, c .before .loop .inv .1 j (omega arith), same j l)))
+returns-2 c = λ T same. sym (none-above T _ _ (λ j l. omega (arith, c .before .loop .inv .1 j (omega arith), same .same-limit j l)))
 
 pub first-above-spec : {M : Type 1} → statement M
 first-above-spec =
@@ -48,11 +33,11 @@ first-above-spec =
     (tie.spec
     Inv-loop
     μ-loop
-    loop-holds
-    element-copy-out-if1
-    shared-slice-read-if1
+    (λ c. search needs)
+    (λ c. search needs)
+    (λ c. search needs)
     returns
-    add-i
-    loop-less
+    (λ c. search needs)
+    (λ c. search needs)
     loop-again
     returns-2)

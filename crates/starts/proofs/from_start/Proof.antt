@@ -3,7 +3,7 @@ use Prim.Native.Nat.{_-_}
 use native.Mathlib.Omega.{arith}
 use borrow.Author.Needs.{needs}
 use lib.ListN.{length}
-use Rattle.starts.proofs.Copied.{Copied, none-copied, power-room, copied-more, copied-power}
+use Rattle.starts.proofs.Copied.{Copied, none-copied, power-room, copied-more, copied-stands}
 use Rattle.starts.proofs.from_start.Statement.{statement}
 use Rattle.starts.proofs.from_start.Tie as tie
 
@@ -12,9 +12,6 @@ Inv-loop start costs doublings running₀ i₀ running i = Copied costs doubling
 
 abbrev μ-loop : tie.MeasureT-loop
 μ-loop start costs doublings running₀ i₀ running i = length start - i
-
-no-bits-requires : tie.Need-no-bits-requires Inv-loop μ-loop
-no-bits-requires c κs = search needs
 
 loop-holds : tie.Need-loop-holds Inv-loop μ-loop
 loop-holds c = rw (c .no-bits .ensures) none-copied
@@ -58,9 +55,7 @@ loop-again : tie.Need-loop-again Inv-loop μ-loop
 loop-again c = copied-more (c .before .before .before .before .before .before .loop .inv) _ (omega arith) (omega arith) (c .power-at .ensures)
 
 returns : tie.Need-returns Inv-loop μ-loop
-returns c =
-    let C = c .before .loop .inv in
-    ((λ i il. C .same-bits i (omega arith)), λ T same powers. copied-power C T (omega arith) powers)
+returns c = copied-stands (c .before .loop .inv) (omega arith)
 
 pub from-start-spec : {M : Type 1} → statement M
 from-start-spec =
@@ -68,7 +63,7 @@ from-start-spec =
     (tie.spec
     Inv-loop
     μ-loop
-    no-bits-requires
+    (λ c κs. search needs)
     loop-holds
     shared-slice-read-running
     element-write-running

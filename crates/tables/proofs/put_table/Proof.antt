@@ -2,6 +2,7 @@
 use mathlib.Core.Path.{_≡_}
 use Prim.Native.Nat.{_-_, _*_, _≤_}
 use native.Mathlib.Omega.{arith}
+use Rattle.sizes.specs.Sizes.{bytesATone}
 use Rattle.bigendian.proofs.Stores.{Written, written-none, written-next}
 use Rattle.tables.specs.Tables.{entriesBelow}
 use Rattle.tables.proofs.Entries.{entries-grow, length-entry, plain, plain-table-bytes}
@@ -9,7 +10,7 @@ use Rattle.tables.proofs.put_table.Statement.{statement}
 use Rattle.tables.proofs.put_table.Tie as tie
 
 abbrev Inv-loop : tie.InvT-loop
-Inv-loop out₀ count costs doublings bits i₀ out i = (i ≤ count) × Written (entriesBelow (plain costs doublings) bits) out₀ 0 i out (9 * i)
+Inv-loop out₀ count costs doublings bits i₀ out i = (i ≤ count) × Written (entriesBelow (plain costs doublings) bits) out₀ 0 i out (bytesATone * i)
 
 abbrev μ-loop : tie.MeasureT-loop
 μ-loop out₀ count costs doublings bits i₀ out i = count - i
@@ -33,7 +34,7 @@ element-copy-out-power-at-3 c = omega arith
 
 power-at-requires : tie.Need-power-at-requires Inv-loop μ-loop
 power-at-requires c κs =
-    let ready = c .before .before .before .before .before .before .pre .1 in
+    let ready = c .before .before .before .before .before .before .pre .1 .0 in
     (ready .cost-high _ (omega arith), ready .shift-high _ (omega arith))
 
 mul-put-tone : tie.Need-mul-put-tone Inv-loop μ-loop
@@ -65,10 +66,10 @@ same-length : tie.Need-same-length Inv-loop μ-loop
 same-length c = c .before .loop .inv .1 .same-length
 
 returns : tie.Need-returns Inv-loop μ-loop
-returns c = λ T same powers.
+returns c = λ limits power T t S.
     let a = c .before in
-    let e : a .loop .i ≡ T .count = omega arith in
-    rw (e, plain-table-bytes T (a .before .before .args .bits .now) powers) at (a .loop .inv .1 .stores)
+    let e : a .loop .i ≡ T .count = omega (arith, S .describes .same-count) in
+    rw (e, plain-table-bytes S) at (a .loop .inv .1 .stores)
 
 pub put-table-spec : {M : Type 1} → statement M
 put-table-spec =

@@ -1,70 +1,69 @@
 -- `tidy::tidy` meets its contract. Assumes nothing.
 use mathlib.Core.Path.{_≡_, _∙_}
+use Prim.Native.Nat.{_+_}
 use native.Mathlib.Omega.{arith}
-use Prim.Native.Nat.{_≤_}
-use borrow.Author.Needs.{needs}
+use lib.ListN.{length}
+use Rattle.line.specs.Line.{Line}
 use Rattle.sheet.specs.Reading.{accepted, reading}
-use Rattle.sheet.proofs.Accepted.{accepted-sound}
-use Rattle.sheet.proofs.Answers.{accepted-as, refused-as}
+use Rattle.sheet.specs.Index.{Indexed}
+use Rattle.sheet.proofs.Uses.{indexed, refused-is, size-high}
+use Rattle.tidyform.specs.Tidy.{tidy}
+use Rattle.tidy.proofs.Index.{tidy-bytes}
 use Rattle.tidy.proofs.Outcomes.{turned-down, too-small, written}
+use borrow.Author.Needs.{needs}
 use Rattle.tidy.proofs.tidy.Statement.{statement}
 use Rattle.tidy.proofs.tidy.Tie as tie
 
--- the sheet is accepted, and means the line read
-is-accepted : (c : tie.After-enum-told) → reading (c .before .before .before .before .before .args .s .now) ≡ accepted (c .before .before .read-sheet .result .line)
-is-accepted c = accepted-as (c .before .before .read-sheet .result) (c .before .before .read-sheet .ensures) (c .enum-told .given .1)
+-- the arrays index the line that the sheet means
+index : (c : tie.After-read2) → (let r = c .before .before .read-sheet in Indexed (c .before .before .before .before .before .before .before .args .s .now) (c .read2 .given .0 .0) (r .last .1 .0) (r .last .1 .1 .0))
+index c = indexed (c .before .before .read-sheet .ensures) (c .read2 .given .1)
 
-size-high : (c : tie.After-enum-told) → c .before .before .read-sheet .result .line .size ≤ 256
-size-high c =
-    let k = c .before .before .before .before in
-    accepted-sound (k .before .args .s .now) (λ i. k .shared-slice-known .given i .fits) _ (is-accepted c) .in-range .size-high
+-- what is counted is the length of its tidy form
+counted : (c : tie.After-words-bytes) (l : Line) → reading (c .before .before .before .before .before .before .before .before .before .before .before .before .args .s .now) ≡ accepted l
+    → 16 + c .before .before .tones-bytes .result + c .words-bytes .result ≡ length (tidy l)
+counted c l e =
+    let k = c .before .before .before .before .before .before .before .before .before .before .before in
+    let bytes = tidy-bytes (index (c .before .before .before .before .before)) (λ i. k .shared-slice-known .given i .fits) l e in
+    omega (arith, bytes, c .before .before .tones-bytes .ensures .0 (k .before .args .s .now), c .words-bytes .ensures .0)
 
-read-sheet-requires : tie.Need-read-sheet-requires
-read-sheet-requires c κs = search needs
-
-enum-known-answer : tie.Need-enum-known-answer
-enum-known-answer c = search needs
-
-enum-told : tie.Need-enum-told
-enum-told c = search needs
-
-line-bytes-requires : tie.Need-line-bytes-requires
-line-bytes-requires c κs = size-high (c .before)
+tones-bytes-requires : tie.Need-tones-bytes-requires
+tones-bytes-requires c κs = size-high (index (c .before .before)) (λ i. c .before .before .before .before .before .before .before .before .shared-slice-known .given i .fits)
 
 returns : tie.Need-returns
 returns c =
-    let k = c .before .before .before in
-    too-small (is-accepted k) (c .before .before .before .before .before .before .before .before .args .out .now) (c .before .line-bytes .ensures) (c .if1 .taken)
+    let n = c .before in
+    let x = index (n .before .before .before .before .before) in
+    too-small (x .means) (n .before .before .before .before .before .before .before .before .before .before .before .before .args .out .now) (counted n (x .line) (x .means)) (c .if1 .taken)
 
 put-line-requires : tie.Need-put-line-requires
 put-line-requires c κs =
-    (size-high (c .before .before .before .before), omega (arith, c .before .before .line-bytes .ensures, c .before .if1 .left))
+    let i = c .before .before .before in
+    (index (i .before .before .before .before .before .before), λ l e. omega (arith, counted (i .before) l e, i .if1 .left))
 
 returns-2 : tie.Need-returns-2
-returns-2 c =
-    let r = c .before .before .before .read-sheet in
-    turned-down _ (c .before .before .before .before .before .before .args .out .now) (refused-as (r .result) (r .ensures) _ (c .before .answer .given .1))
-
-same-length : tie.Need-same-length
-same-length c = search needs
+returns-2 c = turned-down _ (c .before .before .before .before .before .before .before .before .args .out .now) (refused-is (c .before .before .before .read-sheet .ensures) (c .before .read .given .1))
 
 returns-3 : tie.Need-returns-3
 returns-3 c =
-    let k = c .before .before .before .before .before .before .before in
-    let out = k .before .before .before .before .before .args .out .now in
-    let w = written (is-accepted k) out (c .before .before .before .before .before .line-bytes .ensures) (c .before .before .before .before .if1 .left) in
-    (w .0, (w .1 .0, c .before .before .put-line .ensures ∙ w .1 .1))
+    let i = c .before .before .before .before .before .before in
+    let n = i .before in
+    let x = index (n .before .before .before .before .before) in
+    let w = written (x .means) (n .before .before .before .before .before .before .before .before .before .before .before .before .args .out .now) (counted n (x .line) (x .means)) (i .if1 .left) in
+    (w .0, (w .1 .0, c .before .before .put-line .ensures (x .line) (x .means) ∙ w .1 .1))
 
 pub tidy-spec : {M : Type 1} → statement M
 tidy-spec =
     tie.close
     (tie.spec
-    read-sheet-requires
-    enum-known-answer
-    enum-told
-    line-bytes-requires
+    (λ c κs. search needs)
+    (λ c. search needs)
+    (λ c. search needs)
+    tones-bytes-requires
+    (λ c. search needs)
+    (λ c κs. search needs)
+    (λ c. search needs)
     returns
     put-line-requires
     returns-2
-    same-length
+    (λ c. search needs)
     returns-3)

@@ -1,46 +1,37 @@
 -- `tidy::tones_bytes` meets its contract. Between the turns the tones below i are counted. Assumes nothing.
+use mathlib.Core.List.{List}
 use mathlib.Core.Path.{_≡_}
+use mathlib.Core.Logic.{⊎-elim}
+use Prim.Native.Nat.{ℕ, suc, _+_, _-_, _*_, _≤_}
 use native.Mathlib.Numerals.{add-one}
 use native.Mathlib.Omega.{arith}
-use Prim.Native.Nat.{_-_, _*_, _≤_}
 use lib.ListN.{length, getD}
-use Rattle.line.specs.Line.{blank}
-use Rattle.sheet.specs.Tidy.{toneBytes}
 use Rattle.bigendian.proofs.Stores.{length-none, length-next}
-use Rattle.sheet.proofs.Parts.{tones-grow, length-slot-le}
-use borrow.Author.Needs.{needs}
+use Rattle.tidy.specs.Copies.{toneCopy, copies}
+use Rattle.tidy.proofs.Writes.{copies-grow, length-copy, length-no-copy}
 use Rattle.tidy.proofs.tones_bytes.Statement.{statement}
 use Rattle.tidy.proofs.tones_bytes.Tie as tie
 
 abbrev Inv-loop : tie.InvT-loop
-Inv-loop size entries bytes₀ i₀ bytes i = (i ≤ size) × (bytes ≡ length (toneBytes i entries)) × (bytes ≤ 15 * i)
+Inv-loop size places bytes₀ i₀ bytes i = (i ≤ size) × ((s : List ℕ) → bytes ≡ length (copies i s places)) × (bytes ≤ 15 * i)
 
 abbrev μ-loop : tie.MeasureT-loop
-μ-loop size entries bytes₀ i₀ bytes i = size - i
-
--- a tone has at most 15 bytes
-short : (c : tie.After-slot-bytes Inv-loop μ-loop) → c .slot-bytes .result ≤ 15
-short c =
-    let i = c .before .before .before .loop .i in
-    omega (arith, c .slot-bytes .ensures i, length-slot-le i (getD (c .before .before .before .before .args .t2) i blank .slot))
+μ-loop size places bytes₀ i₀ bytes i = size - i
 
 loop-holds : tie.Need-loop-holds Inv-loop μ-loop
-loop-holds c = (omega arith, omega (arith, length-none (tones-grow (c .args .t2))), omega arith)
+loop-holds c = (omega arith, (λ s. omega (arith, length-none (copies-grow s (c .args .places .now)))), omega arith)
 
-cast-entry : tie.Need-cast-entry Inv-loop μ-loop
-cast-entry c = omega arith
+cast-if1 : tie.Need-cast-if1 Inv-loop μ-loop
+cast-if1 c = omega arith
 
-mul-entry : tie.Need-mul-entry Inv-loop μ-loop
-mul-entry c = omega arith
+mul-if1 : tie.Need-mul-if1 Inv-loop μ-loop
+mul-if1 c = omega arith
 
-array-copy-out-entry : tie.Need-array-copy-out-entry Inv-loop μ-loop
-array-copy-out-entry c = omega arith
-
-slot-bytes-requires : tie.Need-slot-bytes-requires Inv-loop μ-loop
-slot-bytes-requires c κs = search needs
+element-copy-out-if1 : tie.Need-element-copy-out-if1 Inv-loop μ-loop
+element-copy-out-if1 c = omega arith
 
 add-bytes : tie.Need-add-bytes Inv-loop μ-loop
-add-bytes c = omega (arith, short c)
+add-bytes c = omega arith
 
 add-i : tie.Need-add-i Inv-loop μ-loop
 add-i c = omega arith
@@ -50,9 +41,14 @@ loop-less c = omega arith
 
 loop-again : tie.Need-loop-again Inv-loop μ-loop
 loop-again c =
-    let i = c .before .before .before .loop .i in
-    let e = c .slot-bytes .ensures i in
-    rw add-one (omega arith, omega (arith, length-next (tones-grow (c .before .before .before .before .args .t2)) i), omega (arith, short c))
+    let a = c .before .before .before in
+    let i = a .loop .i in
+    let places = a .before .args .places .now in
+    let more : (s : List ℕ) → length (copies (suc i) s places) ≡ length (copies i s places) + length (toneCopy s (getD places i 0)) = λ s. length-next (copies-grow s places) i in
+    rw add-one (⊎-elim
+    (λ w. (omega arith, (λ s. omega (arith, more s, a .loop .inv .1 s, length-copy s (getD places i 0) (w .0 .taken))), omega arith))
+    (λ w. (omega arith, (λ s. omega (arith, more s, a .loop .inv .1 s, length-no-copy s {place = getD places i 0} (omega arith))), omega arith))
+    (c .if1 .came))
 
 returns : tie.Need-returns Inv-loop μ-loop
 returns c =
@@ -67,10 +63,9 @@ tones-bytes-spec =
     Inv-loop
     μ-loop
     loop-holds
-    cast-entry
-    mul-entry
-    array-copy-out-entry
-    slot-bytes-requires
+    cast-if1
+    mul-if1
+    element-copy-out-if1
     add-bytes
     add-i
     loop-less

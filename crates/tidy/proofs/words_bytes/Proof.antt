@@ -1,30 +1,31 @@
 -- `tidy::words_bytes` meets its contract. Between the turns the words below `word` are counted. Assumes nothing.
 use mathlib.Core.Path.{_≡_}
 use mathlib.Core.Logic.{⊎-elim}
+use Prim.Native.Nat.{_-_, _*_, _≤_}
 use native.Mathlib.Numerals.{add-one}
 use native.Mathlib.Omega.{arith}
-use Prim.Native.Nat.{_-_, _*_, _≤_}
 use lib.ListN.{length}
-use Rattle.sheet.specs.Tidy.{mapBytes}
+use Rattle.sizes.specs.Sizes.{mostWords}
 use Rattle.bigendian.proofs.Stores.{length-none, length-next}
-use Rattle.sheet.proofs.Parts.{words-grow, length-word, length-no-word}
+use Rattle.tidyform.specs.Tidy.{mapBytes}
+use Rattle.tidyform.proofs.Parts.{words-grow, length-word, length-no-word}
 use Rattle.tidy.proofs.words_bytes.Statement.{statement}
 use Rattle.tidy.proofs.words_bytes.Tie as tie
 
 abbrev Inv-loop : tie.InvT-loop
-Inv-loop maps bytes₀ word₀ bytes word = (word ≤ 8) × (bytes ≡ length (mapBytes word maps)) × (bytes ≤ 6 * word)
+Inv-loop maps bytes₀ word₀ bytes word = (word ≤ mostWords) × (bytes ≡ length (mapBytes word maps)) × (bytes ≤ 6 * word)
 
 abbrev μ-loop : tie.MeasureT-loop
-μ-loop maps bytes₀ word₀ bytes word = 8 - word
+μ-loop maps bytes₀ word₀ bytes word = mostWords - word
 
 loop-holds : tie.Need-loop-holds Inv-loop μ-loop
-loop-holds c = (omega arith, omega (arith, length-none (words-grow (c .args .t1))), omega arith)
+loop-holds c = (omega arith, omega (arith, length-none (words-grow (c .args .maps .now))), omega arith)
 
 mul-if1 : tie.Need-mul-if1 Inv-loop μ-loop
 mul-if1 c = omega arith
 
-array-read-if1 : tie.Need-array-read-if1 Inv-loop μ-loop
-array-read-if1 c = omega arith
+element-copy-out-if1 : tie.Need-element-copy-out-if1 Inv-loop μ-loop
+element-copy-out-if1 c = omega arith
 
 add-bytes : tie.Need-add-bytes Inv-loop μ-loop
 add-bytes c = omega arith
@@ -37,9 +38,9 @@ loop-less c = omega arith
 
 loop-again : tie.Need-loop-again Inv-loop μ-loop
 loop-again c =
-    let a = c .before .before in
+    let a = c .before .before .before in
     let word = a .loop .word in
-    let more = length-next (words-grow (a .before .args .t1)) word in
+    let more = length-next (words-grow (a .before .args .maps .now)) word in
     rw add-one (⊎-elim
     (λ w. let l = length-word word (w .0 .taken) in (omega arith, omega arith, omega arith))
     (λ w. let l = length-no-word word (w .0 .left) in (omega arith, omega arith, omega arith))
@@ -48,7 +49,7 @@ loop-again c =
 returns : tie.Need-returns Inv-loop μ-loop
 returns c =
     let a = c .before in
-    let e : a .loop .word ≡ 8 = omega arith in
+    let e : a .loop .word ≡ mostWords = omega arith in
     (rw e at (a .loop .inv .1), omega arith)
 
 pub words-bytes-spec : {M : Type 1} → statement M
@@ -59,7 +60,7 @@ words-bytes-spec =
     μ-loop
     loop-holds
     mul-if1
-    array-read-if1
+    element-copy-out-if1
     add-bytes
     add-word
     loop-less

@@ -1,39 +1,36 @@
 -- `tidy::writer::put_tones` meets its contract. Between the turns the tones below i are written. Assumes nothing.
 use mathlib.Core.Path.{_≡_}
-use native.Mathlib.Omega.{arith}
 use Prim.Native.Nat.{_-_, _≤_}
+use native.Mathlib.Omega.{arith}
 use Rattle.bigendian.proofs.Stores.{Written, written-none, written-room, written-next}
-use Rattle.sheet.specs.Tidy.{toneBytes}
-use Rattle.sheet.proofs.Parts.{tones-grow}
+use Rattle.tidy.specs.Copies.{copies}
+use Rattle.tidy.proofs.Writes.{copies-grow}
 use Rattle.tidy.proofs.writer.put_tones.Statement.{statement}
 use Rattle.tidy.proofs.writer.put_tones.Tie as tie
 
 abbrev Inv-loop : tie.InvT-loop
-Inv-loop out₀ at size entries place₀ i₀ out place i = (i ≤ size) × Written (λ n. toneBytes n entries) out₀ at i out place
+Inv-loop s size places out₀ at place₀ i₀ out place i = (i ≤ size) × Written (λ n. copies n s places) out₀ at i out place
 
 abbrev μ-loop : tie.MeasureT-loop
-μ-loop out₀ at size entries place₀ i₀ out place i = size - i
+μ-loop s size places out₀ at place₀ i₀ out place i = size - i
 
 loop-holds : tie.Need-loop-holds Inv-loop μ-loop
-loop-holds c = (omega arith, written-none (tones-grow (c .before .args .t4)) (c .before .args .out .now) (c .before .args .at))
+loop-holds c =
+    let a = c .before .before .args in
+    (omega arith, written-none (copies-grow (a .s .now) (a .places .now)) (a .out .now) (a .at))
 
-cast-entry : tie.Need-cast-entry Inv-loop μ-loop
-cast-entry c = omega arith
+mul-put-tone : tie.Need-mul-put-tone Inv-loop μ-loop
+mul-put-tone c = omega arith
 
-mul-entry : tie.Need-mul-entry Inv-loop μ-loop
-mul-entry c = omega arith
+element-copy-out-put-tone : tie.Need-element-copy-out-put-tone Inv-loop μ-loop
+element-copy-out-put-tone c = omega arith
 
-array-copy-out-entry : tie.Need-array-copy-out-entry Inv-loop μ-loop
-array-copy-out-entry c = omega arith
-
-cast-put-slot : tie.Need-cast-put-slot Inv-loop μ-loop
-cast-put-slot c = omega arith
-
-put-slot-requires : tie.Need-put-slot-requires Inv-loop μ-loop
-put-slot-requires c κs =
+put-tone-requires : tie.Need-put-tone-requires Inv-loop μ-loop
+put-tone-requires c κs =
     let a = c .before .before .before in
-    let s = a .before .before in
-    written-room (tones-grow (s .args .t4)) (s .args .out .now) (s .args .at) (a .loop .inv .1) (c .before .before .loop-test .taken) (s .pre .1)
+    let k = a .before .before .before in
+    let grows = copies-grow (k .args .s .now) (k .args .places .now) in
+    (k .pre .1 .0 (a .loop .i), written-room grows (k .args .out .now) (k .args .at) (a .loop .inv .1) (c .before .before .loop-test .taken) (k .pre .1 .1))
 
 add-i : tie.Need-add-i Inv-loop μ-loop
 add-i c = omega arith
@@ -44,9 +41,9 @@ loop-less c = omega arith
 loop-again : tie.Need-loop-again Inv-loop μ-loop
 loop-again c =
     let a = c .before .before .before .before .before .before in
-    let s = a .before .before in
-    let e = c .before .before .put-slot .ensures in
-    (omega arith, written-next (tones-grow (s .args .t4)) (s .args .out .now) (s .args .at) (a .loop .inv .1) (e .0) (e .1))
+    let k = a .before .before .before .args in
+    let e = c .before .before .put-tone .ensures in
+    (omega arith, written-next (copies-grow (k .s .now) (k .places .now)) (k .out .now) (k .at) (a .loop .inv .1) (e .0) (e .1))
 
 same-length : tie.Need-same-length Inv-loop μ-loop
 same-length c = c .before .loop .inv .1 .same-length
@@ -54,7 +51,7 @@ same-length c = c .before .loop .inv .1 .same-length
 returns : tie.Need-returns Inv-loop μ-loop
 returns c =
     let a = c .before in
-    let e : a .loop .i ≡ c .before .before .before .args .size = omega arith in
+    let e : a .loop .i ≡ a .before .before .before .args .size = omega arith in
     (rw e at (a .loop .inv .1 .place-is), rw e at (a .loop .inv .1 .stores))
 
 pub put-tones-spec : {M : Type 1} → statement M
@@ -64,11 +61,9 @@ put-tones-spec =
     Inv-loop
     μ-loop
     loop-holds
-    cast-entry
-    mul-entry
-    array-copy-out-entry
-    cast-put-slot
-    put-slot-requires
+    mul-put-tone
+    element-copy-out-put-tone
+    put-tone-requires
     add-i
     loop-less
     loop-again

@@ -4,7 +4,7 @@ use Prim.Native.Nat.{_+_, _≤_}
 use native.Mathlib.Omega.{arith}
 use lib.ListN.{length, length-set}
 use Rattle.bigendian.proofs.Numbers.{number-fits}
-use Rattle.sheet.proofs.Parts.{no-word, some-word, length-word}
+use Rattle.tidyform.proofs.Parts.{no-word, some-word, length-word}
 use Rattle.tidy.proofs.Writes.{word-stores}
 use borrow.Author.Needs.{needs}
 use Rattle.tidy.proofs.writer.put_word.Statement.{statement}
@@ -20,20 +20,8 @@ returns c = rw (no-word (c .before .before .args .word) (c .if1 .taken)) (omega 
 slice-write-out : tie.Need-slice-write-out
 slice-write-out c = omega (arith, room c)
 
-add-out : tie.Need-add-out
-add-out c = search needs
-
 slice-write-out-2 : tie.Need-slice-write-out-2
 slice-write-out-2 c = simp length-set (omega (arith, room c))
-
-add-put-number : tie.Need-add-put-number
-add-put-number c = search needs
-
-put-number-requires : tie.Need-put-number-requires
-put-number-requires c κs = search needs
-
-add-result : tie.Need-add-result
-add-result c = search needs
 
 same-length : tie.Need-same-length
 same-length c = c .before .before .put-number .kept .0 ∙ simp length-set
@@ -55,10 +43,10 @@ put-word-spec =
     (tie.spec
     returns
     slice-write-out
-    add-out
+    (λ c. search needs)
     slice-write-out-2
-    add-put-number
-    put-number-requires
-    add-result
+    (λ c. search needs)
+    (λ c κs. search needs)
+    (λ c. search needs)
     same-length
     returns-2)

@@ -1,0 +1,76 @@
+-- `arrays::fill_arrays` meets its contract. Between the turns the arrays hold the tones below i. Assumes nothing.
+use Prim.Native.Nat.{_-_}
+use native.Mathlib.Omega.{arith}
+use borrow.Author.Needs.{needs}
+use Rattle.arrays.proofs.Filling.{FillingOf, size-high, gap-in-range, tone-in-range, filled-next, filled-line, filling-starts}
+use Rattle.arrays.proofs.fill_arrays.Statement.{statement}
+use Rattle.arrays.proofs.fill_arrays.Tie as tie
+
+abbrev Inv-loop : tie.InvT-loop
+Inv-loop s header places maps limits₀ costs₀ doublings₀ i₀ limits costs doublings i = FillingOf s header places maps limits costs doublings i
+
+abbrev μ-loop : tie.MeasureT-loop
+μ-loop s header places maps limits₀ costs₀ doublings₀ i₀ limits costs doublings i = header .size - i
+
+loop-holds : tie.Need-loop-holds Inv-loop μ-loop
+loop-holds c = filling-starts (λ i. c .before .before .before .shared-slice-known .given i .fits) (c .before .before .before .before .pre)
+
+cast-tone : tie.Need-cast-tone Inv-loop μ-loop
+cast-tone c = omega (arith, size-high (c .before .before .loop .inv))
+
+mul-steps-at : tie.Need-mul-steps-at Inv-loop μ-loop
+mul-steps-at c = record { fits = omega (arith, size-high (c .before .before .before .loop .inv)) }
+
+element-copy-out-steps-at : tie.Need-element-copy-out-steps-at Inv-loop μ-loop
+element-copy-out-steps-at c = omega (arith, size-high (c .before .before .before .loop .inv))
+
+steps-at-requires : tie.Need-steps-at-requires Inv-loop μ-loop
+steps-at-requires c κs = let l = c .before .before .before .before in (gap-in-range (l .loop .inv), tone-in-range (l .loop .inv) (c .before .before .if1 .taken))
+
+element-write-limits : tie.Need-element-write-limits Inv-loop μ-loop
+element-write-limits c = omega (arith, size-high (c .before .before .before .before .before .loop .inv))
+
+mul-costs : tie.Need-mul-costs Inv-loop μ-loop
+mul-costs c = record { fits = omega (arith, size-high (c .before .before .before .before .before .loop .inv)) }
+
+element-write-costs : tie.Need-element-write-costs Inv-loop μ-loop
+element-write-costs c = omega (arith, size-high (c .before .before .before .before .before .loop .inv))
+
+element-write-doublings : tie.Need-element-write-doublings Inv-loop μ-loop
+element-write-doublings c = omega (arith, size-high (c .before .before .before .before .before .loop .inv))
+
+add-i : tie.Need-add-i Inv-loop μ-loop
+add-i c = record { fits = omega (arith, size-high (c .before .before .before .before .before .loop .inv)) }
+
+loop-less : tie.Need-loop-less Inv-loop μ-loop
+loop-less c = omega arith
+
+loop-again : tie.Need-loop-again Inv-loop μ-loop
+loop-again c =
+    let l = c .before .before .before .before .before in
+    filled-next (l .loop .inv) (c .before .before .before .if1 .taken) _ (c .before .before .is-silenced .ensures) _ (c .steps-at .ensures)
+
+returns : tie.Need-returns Inv-loop μ-loop
+returns c = filled-line (c .before .before .loop .inv) (omega arith)
+
+pub fill-arrays-spec : {M : Type 1} → statement M
+fill-arrays-spec =
+    tie.close
+    (tie.spec
+    Inv-loop
+    μ-loop
+    loop-holds
+    (λ c. search needs)
+    cast-tone
+    (λ c κs. search needs)
+    mul-steps-at
+    element-copy-out-steps-at
+    steps-at-requires
+    element-write-limits
+    mul-costs
+    element-write-costs
+    element-write-doublings
+    add-i
+    loop-less
+    loop-again
+    returns)

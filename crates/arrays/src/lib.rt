@@ -1,0 +1,87 @@
+// The tones of a sheet as arrays of numbers, so that the runs have one path for both kinds. Each tone is decoded from its place in the
+// sheet, once.
+ghost use mathlib.Core.Path.{_≡_};
+ghost use Rattle.lists.specs.Lent.{before};
+ghost use Rattle.line.specs.Tone.{Gap};
+ghost use Rattle.line.specs.Line.{EntryInRange, entrySteps};
+ghost use Rattle.line.specs.Arrays.{arraysBefore, arraysAfter};
+ghost use Rattle.command.specs.Places.{entryAt};
+ghost use Rattle.sheet.specs.Reading.{reading};
+ghost use Rattle.sheet.specs.Index.{Indexed};
+ghost use Rattle.arrays.specs.Tones.{HoldsLineOf, TonesOf};
+use command::Header;
+use line::Steps;
+use sheet::Read;
+use sizes::TONES;
+use sizes::WORDS;
+
+// What the runs need of the tone whose command stands at a place: nothing where none does, or where it is silenced.
+fn steps_at(s: &[u8], gap: u16, place: u16, silenced: bool) -> Steps
+    requires { ⌜ Gap gap ⌝ }
+    requires { ⌜ EntryInRange (entryAt (now s) place) ⌝ }
+    ensures { λ r. ⌜ r ≡ entrySteps gap (entryAt (before s) place) «silenced» ⌝ }
+{
+    let none = Steps {
+        limit: 0,
+        cost: 0,
+        doublings: 0,
+    };
+    if silenced {
+        return none;
+    }
+    if place < 1 {
+        return none;
+    }
+    let tone = command::tone_at(s, place);
+    line::steps_of(gap, tone)
+}
+
+// The arrays of the line that an index of the sheet stands for.
+fn fill_arrays(
+    s: &[u8],
+    header: Header,
+    places: &[u16; TONES],
+    maps: &[u32; WORDS],
+    limits: &mut [u8; TONES],
+    costs: &mut [u32; TONES],
+    doublings: &mut [u8; TONES],
+)
+    requires { ⌜ Indexed (now s) header (now places) (now maps) ⌝ }
+    ensures { λ r. ⌜ HoldsLineOf (reading (before s)) (arraysAfter limits costs doublings) ⌝ }
+{
+    *limits = [0; TONES];
+    *costs = [0; TONES];
+    *doublings = [0; TONES];
+    let mut i: usize = 0;
+    while i < header.size as usize {
+        let tone = i as u8;
+        let silenced = silence::is_silenced(maps, tone);
+        let steps = steps_at(s, header.gap, places[i], silenced);
+        limits[i] = steps.limit;
+        costs[i] = steps.cost;
+        doublings[i] = steps.doublings;
+        i += 1;
+    }
+}
+
+// Reads a sheet into the arrays of its tones: its header, or the first refusal that it meets. After a refusal the arrays are as they
+// were.
+pub fn read_tones(
+    s: &[u8],
+    limits: &mut [u8; TONES],
+    costs: &mut [u32; TONES],
+    doublings: &mut [u8; TONES],
+) -> Read
+    ensures { λ r. ⌜ TonesOf r (arraysBefore limits costs doublings) (arraysAfter limits costs doublings) (reading (before s)) ⌝ }
+{
+    let mut places: [u16; TONES] = [0; TONES];
+    let mut maps: [u32; WORDS] = [0; WORDS];
+    let read = sheet::read_sheet(s, &mut places, &mut maps);
+    match read {
+        Read::Refused(refusal) => Read::Refused(refusal),
+        Read::Accepted(header) => {
+            fill_arrays(s, header, &places, &maps, limits, costs, doublings);
+            Read::Accepted(header)
+        }
+    }
+}

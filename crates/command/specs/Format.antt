@@ -1,0 +1,85 @@
+-- What a format allows, and the command at a place of a sheet. Document 01, 'The line sheet' and 'Why a sheet is turned down'.
+-- Assumes nothing.
+use mathlib.Core.Bool.{Bool, true, false, cond}
+use mathlib.Core.List.{List}
+use mathlib.Core.Option.{Option, none, some}
+use mathlib.Core.Path.{_≡_}
+use Prim.Native.Nat.{ℕ, _+_, _≤_}
+use lib.Dec.{leb, ltb}
+use lib.ListN.{length, getD}
+use Rattle.sizes.specs.Sizes.{mostTones, mostWords, longestSheet}
+use Rattle.line.specs.Line.{Entry}
+use Rattle.command.specs.declared.Refusal.the-variants.{SheetTooLong, SheetEnds, CommandNotAllowed}
+use Rattle.command.specs.declared.Header.{Header}
+use Rattle.command.specs.declared.Command.{Command}
+use Rattle.command.specs.declared.Command.the-variants.{End, Refused, Head, Describe, Silence}
+use Rattle.command.specs.declared.Decoded.{Decoded}
+use Rattle.command.specs.Rows.{Row, width, rowsOf, withCode, rowAt}
+
+-- The most tones, the silence words, the longest sheet, and the commands allowed after so many of the first three.
+pub record Format : Type 0 where
+  pub tones : ℕ
+  pub words : ℕ
+  pub bytes : ℕ
+  pub rows : (stage : ℕ) → List Row
+
+-- document 01's commands, with so many tones, words and bytes
+abbrev pub formatOf : (tones words bytes : ℕ) → Format
+formatOf tones words bytes = record { tones = tones; words = words; bytes = bytes; rows = rowsOf tones words }
+
+-- document 01's format
+abbrev pub today : Format
+today = formatOf mostTones mostWords longestSheet
+
+-- refusal 1: 'The sheet has more than 4,096 bytes'
+abbrev pub isTooLong : Format → List ℕ → Bool
+isTooLong F s = ltb (F .bytes) (length s)
+
+-- The tone that the command at a place addresses, if it addresses one: the byte after the command's own.
+abbrev pub addressed : List ℕ → (at : ℕ) → ℕ
+addressed s at = getD s (at + 1) 0
+
+-- The command at a place of a sheet: refusal 2 where the sheet ends there, 3 where its byte is not allowed, 2 where the rest of its
+-- operands is missing; else as its row has it. With it comes the place after the command.
+abbrev pub decodedRow : Header → (known : Entry) → List ℕ → (at : ℕ) → Option Row → Decoded
+decodedRow h known s at none = record { command = Refused (CommandNotAllowed at); next = at }
+decodedRow h known s at (some r) =
+    cond (ltb (length s) (at + 1 + width (r .operands))) (record { command = Refused (SheetEnds (length s)); next = at })
+    (record { command = rowAt h known s at r; next = at + 1 + width (r .operands) })
+
+unfoldable pub decoded : Format → Header → (known : Entry) → List ℕ → (at stage : ℕ) → Decoded
+unfolding rowAt
+decoded F h known s at stage =
+    cond (leb (length s) at) (record { command = Refused (SheetEnds (length s)); next = at })
+    (decodedRow h known s at (withCode (F .rows stage) (getD s at 0)))
+
+-- The command at a place of any bytes: of a sheet that is too long no command is read.
+unfoldable pub commandAt : Format → Header → (known : Entry) → List ℕ → (at stage : ℕ) → Decoded
+unfolding decoded
+commandAt F h known s at stage =
+    cond (isTooLong F s) (record { command = Refused SheetTooLong; next = at }) (decoded F h known s at stage)
+
+-- ---- one format within another
+
+abbrev pub isRefused : Command → Bool
+isRefused (Refused r) = true
+isRefused End = false
+isRefused (Head h) = false
+isRefused (Describe i) = false
+isRefused (Silence word map) = false
+
+-- A row covers another: wherever that one takes a command, this one takes as many bytes and does the same.
+pub record Covers (r′ r : Row) : Type 0 where
+  pub same-width : width (r′ .operands) ≡ width (r .operands)
+  pub same-effect : (h : Header) (known : Entry) (s : List ℕ) (at : ℕ) → isRefused (rowAt h known s at r) ≡ false → rowAt h known s at r′ ≡ rowAt h known s at r
+
+-- what a row that a format finds for a command byte needs of a larger one
+abbrev pub Covered : Option Row → Option Row → Type 0
+Covered none o = Unit {0}
+Covered (some r) none = ⊥
+Covered (some r) (some r′) = Covers r′ r
+
+-- A format is within another: its sheets are no longer, and each of its commands is covered.
+pub record Within (F G : Format) : Type 0 where
+  pub no-longer : F .bytes ≤ G .bytes
+  pub covered : (stage code : ℕ) → Covered (withCode (F .rows stage) code) (withCode (G .rows stage) code)

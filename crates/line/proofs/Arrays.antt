@@ -1,0 +1,112 @@
+-- What the arrays of a line tell of its tones: their ranges, limits and powers; and the table of no bits beside them.
+-- Assumes nothing.
+use mathlib.Core.Path.{_≡_, refl, sym, ap, _∙_}
+use mathlib.Core.Bool.{Bool, true, false}
+use mathlib.Core.List.{List}
+use Prim.Native.Nat.{ℕ, suc, _-_, _*_, _^_, _≤_, _<_}
+use native.Mathlib.Nat.{mul-le-mul-left, le-trans}
+use native.Mathlib.Omega.{arith}
+use lib.ListN.{getD, replicate, length-replicate}
+use Rattle.sizes.specs.Sizes.{mostTones}
+use Rattle.lists.proofs.Stores.{all-same}
+use Rattle.silence.specs.Map.{silenced}
+use Rattle.steps.specs.Tones.{Tones, step, Rising, Table, _!_, noBits, sum, totalBits}
+use Rattle.steps.proofs.Sums.{sum-zero, sum-eq}
+use Rattle.line.specs.declared.Steps.{Steps}
+use Rattle.line.specs.Tone.{Gap, cost, doublings, limit}
+use Rattle.line.specs.Line.{Entry, undescribed, described, Line, entryOf, entryLimit, tones, EntryInRange, LineInRange, noSteps, entrySteps, stepsAt}
+use Rattle.line.specs.Arrays.{Arrays, costAt, doublingsAt, stepSize, ArraysInRange, Under, Describes, StandsFor, ArraysOf}
+use Rattle.line.proofs.Ceiling.{cost-range}
+use Rattle.line.proofs.Growth.{doublings-low, shift-at-most}
+use Rattle.line.proofs.Limits.{limit-is}
+use Rattle.line.proofs.Loads.{line-power}
+
+-- ---- the arrays of a line
+
+-- the ranges of what the runs need of one tone
+record Small (s : Steps) : Type 0 where
+  cost-low : 0 < s .limit → (0 < s .cost) × (0 < s .doublings)
+  cost-high : s .cost < 2 ^ 24
+  shift-high : s .doublings * s .limit ≤ 15
+
+none-small : Small noSteps
+none-small = record { cost-low = λ h. omega arith; cost-high = omega arith; shift-high = omega arith }
+
+small : (g : ℕ) (e : Entry) (q : Bool) → Gap g → EntryInRange e → Small (entrySteps g e q)
+small g e true G I = none-small
+small g undescribed false G I = none-small
+small g (described t) false G I =
+    let w = cost g t in
+    let range = cost-range g t G I in
+    record {
+      cost-low = λ h. (range .low, doublings-low (t .kind));
+      cost-high = omega (arith, range .high);
+      shift-high = shift-at-most t (doublings t) (limit t w) refl (limit-is t w .at-most) I;
+    }
+
+limit-same : (g : ℕ) (e : Entry) (q : Bool) → entryLimit g e q ≡ entrySteps g e q .limit
+limit-same g e true = refl
+limit-same g undescribed false = refl
+limit-same g (described t) false = refl
+
+module _ (l : Line) (I : LineInRange l) (A : Arrays) (h : ArraysOf l A) where
+  pub line-arrays-in-range : ArraysInRange (l .size) A
+  line-arrays-in-range = record {
+    count-high = I .size-high;
+    cost-low = λ i il. rw (h .limit-at i, h .cost-at i, h .doublings-at i) (at i il .cost-low);
+    cost-high = λ i il. rw (h .cost-at i) (at i il .cost-high);
+    shift-high = λ i il. rw (h .doublings-at i, h .limit-at i) (at i il .shift-high);
+  }
+    where
+      at : (i : ℕ) → i < l .size → Small (stepsAt l i)
+      at i il = small (l .gap) (entryOf l i) (silenced (l .maps) i) (I .gap) (I .entries i il)
+
+  pub line-describes : Describes (l .size) A (tones l)
+  line-describes = record {
+    same-count = refl;
+    same-limit = λ i il. limit-same (l .gap) (entryOf l i) (silenced (l .maps) i) ∙ sym (h .limit-at i);
+    same-power = λ i b il bl. rw (h .cost-at i, h .doublings-at i) (line-power l I i b bl);
+  }
+
+-- ---- any arrays that describe tones
+
+module _ {count : ℕ} {A : Arrays} {T : Tones} (D : Describes count A T) where
+  -- steps below the limits
+  pub same-step : (i b : ℕ) → i < count → b < T .limit i → step T i b ≡ stepSize (costAt A i) (doublingsAt A i) b
+  unfolding step
+  same-step i b il bl = rw (D .same-power i (suc b) il bl, D .same-power i b il (omega arith))
+
+  -- no bits beside them stand for the table of no bits
+  pub no-bits-stand : Rising T → count ≤ mostTones → StandsFor count A (replicate mostTones 0) 0 T (noBits T)
+  no-bits-stand R small = record {
+    describes = D;
+    rising = R;
+    within = record { sized = length-replicate (T .count) 0; under = λ i il. omega (arith, none i) };
+    same-bits = λ i il. none i ∙ sym (all-same mostTones i 0);
+    same-power = sym (sum-zero (T .count) (λ i. T .power i (noBits T ! i)) (λ i il. power i (omega (arith, D .same-count))));
+  }
+    where
+      none : (i : ℕ) → noBits T ! i ≡ 0
+      none i = all-same (T .count) i 0
+
+      power : (i : ℕ) → i < count → T .power i (noBits T ! i) ≡ 0
+      power i il =
+          let z : doublingsAt A i * 0 ≡ 0 = omega arith in
+          ap (T .power i) (none i) ∙ D .same-power i 0 il (omega arith) ∙ rw z (omega arith)
+
+-- ---- tables beside arrays
+
+module _ {count : ℕ} {A : Arrays} {bits : List ℕ} {power : ℕ} {T : Tones} {t : Table} (S : StandsFor count A bits power T t) where
+  pub stands-under : Under count A bits
+  stands-under = record { under = λ i il. omega (arith, S .same-bits i il, S .within .under i (omega (arith, S .describes .same-count)), S .describes .same-limit i il) }
+
+  -- the bits add up to the table's total
+  pub stands-bits : sum count (λ i. getD bits i 0) ≡ totalBits T t
+  stands-bits = sum-same (S .describes .same-count)
+    where
+      sum-same : T .count ≡ count → sum count (λ i. getD bits i 0) ≡ totalBits T t
+      sum-same e = rw (sym e) (sum-eq (T .count) _ _ (λ i il. sym (S .same-bits i (omega arith))))
+
+-- bits under the limits keep the shifts in range
+pub shift-under : {count : ℕ} {A : Arrays} {bits : List ℕ} → ArraysInRange count A → Under count A bits → (i : ℕ) → i < count → doublingsAt A i * getD bits i 0 ≤ 15
+shift-under {count} {A} R U i il = le-trans (mul-le-mul-left (doublingsAt A i) (U .under i il)) (R .shift-high i il)

@@ -1,0 +1,4 @@
+pub mod Runs
+pub mod Starting
+pub mod UpTo
+pub mod Outcomes

@@ -1,0 +1,135 @@
+-- The runs of loadable tones: their sums fit, the moves that the code allows are enough, one of them is the single step, and what the last
+-- step of an adding run answers.
+-- Assumes nothing.
+use mathlib.Core.Path.{_≡_, refl, sym, _∙_}
+use Prim.Native.Nat.{ℕ, _+_, _*_, _^_, _≤_, _<_}
+use native.Mathlib.Decide.{decLt}
+use native.Mathlib.Nat.{lt-of-lt-of-le, mul-le-mul, mul-le-mul-left, le-trans}
+use native.Mathlib.Omega.{arith}
+use borrow.Author.Tests.{lt-ltb, le-ltb}
+use lib.Pow.{pow-mono, shl-lt}
+use Rattle.sizes.specs.Sizes.{mostTones, pairCap, mostBitsOfAll}
+use Rattle.steps.specs.Tones.{Tones, Table, _!_, noBits, totalBits, totalPower, sumOfLimits, KeepsLimits, KeepsBudget}
+use Rattle.steps.specs.Runs.{Answer, moved, finished, addStep, Ran, follow, run, mostBits, carrying, setBits}
+use Rattle.steps.proofs.Enough.{moves-at-most, most-bits-enough, set-bits-adds, bits-are-moves}
+use Rattle.steps.proofs.Sums.{sum-at-most}
+use Rattle.line.specs.Arrays.{Arrays, limitAt, doublingsAt, PowersInRange}
+use Rattle.line.proofs.Arrays.{no-bits-stand, stands-under, shift-under}
+use Rattle.running.specs.declared.Running.{Running}
+use Rattle.running.specs.declared.Progress.{Progress}
+use Rattle.running.specs.declared.Progress.the-variants.{Moved, Finished}
+use Rattle.running.specs.Running.{progressAfter, Stands, Runnable}
+use Rattle.starts.specs.Starts.{noBitsYet}
+use Rattle.loadings.specs.Loads.{Loadable}
+use Rattle.loadings.specs.Refits.{stepped}
+
+-- ---- sums
+
+module _ {count : ℕ} {A : Arrays} {T : Tones} (L : Loadable count A T) where
+  few : T .count ≤ mostTones
+  few = omega (arith, L .in-range .count-high, L .describes .same-count)
+
+  inside : (i : ℕ) → i < T .count → i < count
+  inside i il = omega (arith, L .describes .same-count)
+
+  limit-high : (i : ℕ) → i < T .count → T .limit i ≤ pairCap
+  limit-high i il = rw (L .describes .same-limit i (inside i il)) (by (decLt 0 (limitAt A i)))
+    where
+      by : Dec (0 < limitAt A i) → limitAt A i ≤ pairCap
+      by (no n) = omega arith
+      by (yes h) =
+          let one = mul-le-mul {n₁ = 1} {m₁ = limitAt A i} {n₂ = doublingsAt A i} {m₂ = limitAt A i} (L .in-range .cost-low i (inside i il) h .1) (omega arith) in
+          omega (arith, one, L .in-range .shift-high i (inside i il))
+
+  -- no line's limits add up to more
+  pub limits-high : sumOfLimits T ≤ mostBitsOfAll
+  limits-high = omega (arith, few, sum-at-most (T .count) pairCap (T .limit) limit-high)
+
+  power-high : (i b : ℕ) → i < T .count → b ≤ T .limit i → T .power i b ≤ 2 ^ 39
+  power-high i b il bl =
+      let k = inside i il in
+      let under : b ≤ limitAt A i = omega (arith, L .describes .same-limit i k) in
+      let shift : doublingsAt A i * b ≤ 15 = le-trans (mul-le-mul-left (doublingsAt A i) under) (L .in-range .shift-high i k) in
+      let high = lt-of-lt-of-le (shl-lt 24 (doublingsAt A i * b) (L .in-range .cost-high i k)) (pow-mono {i = 24 + doublingsAt A i * b} {j = 39} (omega arith)) in
+      rw (L .describes .same-power i b k bl) (omega (arith, high))
+
+  -- no total power comes near 2^62
+  pub bounded : (u : Table) → KeepsLimits T u → totalPower T u < 2 ^ 62
+  bounded u w = omega (arith, few, sum-at-most (T .count) (2 ^ 39) (λ i. T .power i (u ! i)) (λ i il. power-high i (u ! i) il (w .under i il)))
+
+  -- a run may go on from a running table that stands for a table of T
+  pub runnable : {r : Running} {t : Table} → Stands count A r T t → Runnable count A r
+  runnable {t = t} S = record { tones = T; table = t; in-range = L .in-range; stands = S; bounded = bounded }
+
+  -- the running table of no bits
+  pub none-stands : {r : Running} → r ≡ noBitsYet → Stands count A r T (noBits T)
+  none-stands e = rw e (no-bits-stand (L .describes) (L .rising) (L .in-range .count-high))
+
+  -- the powers of a running table that stands for a table of T are in range
+  pub writable : {r : Running} {t : Table} → Stands count A r T t → PowersInRange count (A .costs) (A .doublings) (r .bits)
+  writable S = record { cost-high = L .in-range .cost-high; shift-high = shift-under (L .in-range) (stands-under S) }
+
+  -- ---- enough moves
+
+  module _ (budget : ℕ) where
+    -- 'No bits, no power'
+    pub none-fits : KeepsBudget T budget (noBits T)
+    none-fits = omega (arith, no-bits-stand (L .describes) (L .rising) (L .in-range .count-high) .same-power)
+
+    most-run : run (addStep T budget) mostBitsOfAll (noBits T) ≡ mostBits T budget
+    most-run = most-bits-enough T (L .rising) budget none-fits mostBitsOfAll limits-high
+
+    -- what stands for the table of that run stands for the one of most bits
+    pub most-stands : {r : Running} → Stands count A r T (run (addStep T budget) mostBitsOfAll (noBits T) .table) → Stands count A r T (mostBits T budget .table)
+    most-stands S = rw most-run at S
+
+    pub target-run : (target : ℕ) → setBits T budget target ≡ carrying T target (run (addStep T budget) target (noBits T) .table)
+    target-run = set-bits-adds T (L .rising) budget none-fits
+
+-- ---- what the last step of a run answers
+
+-- 'finished' if the run made fewer moves than it might, else 'moved'
+fewer : (made most : ℕ) → progressAfter made most ≡ Finished → made < most
+fewer made most e = go (decLt made most)
+  where
+    go : Dec (made < most) → made < most
+    go (yes h) = h
+    go (no n) =
+        let w : Moved ≡ Finished = rw (le-ltb made most (omega arith)) at e in
+        absurd (let z : _≡_ {A = ℕ} 0 1 = cc in omega arith)
+
+all : (made most : ℕ) → progressAfter made most ≡ Moved → most ≤ made
+all made most e = go (decLt made most)
+  where
+    go : Dec (made < most) → most ≤ made
+    go (no n) = omega arith
+    go (yes h) =
+        let w : Finished ≡ Moved = rw (lt-ltb made most h) at e in
+        absurd (let z : _≡_ {A = ℕ} 0 1 = cc in omega arith)
+
+-- the run that adds the target's bits carries them exactly if its last step moved
+module _ {count : ℕ} {A : Arrays} {T : Tones} (L : Loadable count A T) (budget target : ℕ) where
+  adding : Ran
+  adding = run (addStep T budget) target (noBits T)
+
+  bits : totalBits T (adding .table) ≡ adding .moves
+  unfolding adding
+  bits = bits-are-moves T (L .rising) budget (none-fits L budget) target
+
+  pub carried-by : {p : Progress} → p ≡ progressAfter (run (addStep T budget) target (noBits T) .moves) target → p ≡ Moved → totalBits T (run (addStep T budget) target (noBits T) .table) ≡ target
+  unfolding adding
+  carried-by e f = omega (arith, bits, all (adding .moves) target (sym e ∙ f), moves-at-most (addStep T budget) target (noBits T))
+
+  pub missed-by : {p : Progress} → p ≡ progressAfter (run (addStep T budget) target (noBits T) .moves) target → p ≡ Finished → ¬ (totalBits T (run (addStep T budget) target (noBits T) .table) ≡ target)
+  unfolding adding
+  missed-by e f q = omega (arith, bits, fewer (adding .moves) target (sym e ∙ f))
+
+-- ---- the single step
+
+pub one-move : (rule : Table → Answer) (t : Table) → run rule 1 t ≡ stepped t (rule t)
+unfolding run follow
+one-move rule t = by (rule t)
+  where
+    by : (a : Answer) → follow (run rule 0) t a ≡ stepped t a
+    by finished = refl
+    by (moved u) = refl

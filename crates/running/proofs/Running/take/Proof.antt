@@ -1,0 +1,46 @@
+-- `running::Running::take` meets its contract. Assumes nothing.
+use mathlib.Core.Path.{_≡_, refl}
+use native.Mathlib.Numerals.{add-one}
+use native.Mathlib.Omega.{arith}
+use borrow.Author.Needs.{needs}
+use lib.ListN.{length}
+use Rattle.sizes.specs.Sizes.{mostTones}
+use Rattle.running.proofs.Changes.{limit-small, followed}
+use Rattle.running.proofs.Running.take.Statement.{statement}
+use Rattle.running.proofs.Running.take.Tie as tie
+
+add-bits : tie.Need-add-bits
+add-bits c = let P = c .before .pre in record { fits = omega (arith, limit-small (P .in-range) _ (P .tone), P .free) }
+
+-- where the function begins
+abbrev entry : tie.After-put-ranks-arg5 → tie.Start
+entry c = c .before .before .before .before .before .before .before
+
+put-ranks-requires : tie.Need-put-ranks-requires
+put-ranks-requires c κs =
+    let P = entry c .pre in
+    let I = P .in-range in
+    (omega (arith, P .tone, I .count-high), (I .cost-high _ (P .tone), (I .shift-high _ (P .tone), omega (arith, P .free))))
+
+returns : tie.Need-returns
+returns c =
+    let s = entry (c .before) in
+    let P = s .pre in
+    let n : length (s .args .t1 .bits) ≡ mostTones = search needs in
+    let stored = c .put-ranks .ensures in
+    (rw add-one refl, followed (omega (arith, P .tone, P .in-range .count-high)) n (stored .1 .1) _ _ (stored .0) (stored .1 .0))
+
+pub take-spec : {M : Type 1} → statement M
+take-spec =
+    tie.close
+    (tie.spec
+    (λ c. search needs)
+    add-bits
+    (λ c. search needs)
+    (λ c. search needs)
+    (λ c. search needs)
+    (λ c. search needs)
+    (λ c. search needs)
+    (λ c. search needs)
+    put-ranks-requires
+    returns)

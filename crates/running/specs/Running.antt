@@ -1,0 +1,85 @@
+-- The running table beside the tones and the table of crate steps that it stands for; what a step and a run answer.
+-- Assumes nothing.
+use mathlib.Core.Bool.{cond}
+use mathlib.Core.List.{List}
+use mathlib.Core.Path.{_≡_}
+use Prim.Native.Nat.{ℕ, suc, _+_, _-_, _^_, _≤_, _<_}
+use lib.Dec.{ltb}
+use lib.ListN.{getD, set}
+use Rattle.steps.specs.Tones.{Tones, Table, totalPower, KeepsLimits}
+use Rattle.steps.specs.Runs as rule
+use Rattle.line.specs.Arrays.{Arrays, limitAt, ArraysInRange, StandsFor}
+use Rattle.ranks.specs.Ranks.{Ranked}
+use Rattle.moves.specs.declared.Rule.{Rule}
+use Rattle.moves.specs.declared.Step.{Step}
+use Rattle.moves.specs.Moves.{ruleOf}
+use Rattle.running.specs.declared.Progress.{Progress}
+use Rattle.running.specs.declared.Progress.the-variants.{Moved, Finished}
+use Rattle.running.specs.declared.Running.{Running}
+use Rattle.running.specs.declared.Stepped.{Stepped}
+use Rattle.running.specs.declared.Ended.{Ended}
+
+-- 'finished' if a run made fewer moves than it may, else 'moved': so with none allowed it is 'moved'
+abbrev pub progressAfter : (made most : ℕ) → Progress
+progressAfter made most = cond (ltb made most) Finished Moved
+
+-- the running table with a free step taken, and with a held one given up
+abbrev pub taken : Running → Step → Running
+taken r f = record { bits = set (r .bits) (f .tone) (suc (getD (r .bits) (f .tone) 0)); power = r .power + f .size }
+
+abbrev pub givenUp : Running → Step → Running
+givenUp r h = record { bits = set (r .bits) (h .tone) (getD (r .bits) (h .tone) 0 - 1); power = r .power - h .size }
+
+-- A step of one of the tones can be taken: it is free, and the total stays within 64 bits.
+pub record CanTake (A : Arrays) (r : Running) (f : Step) : Type 0 where
+  pub count : ℕ
+  pub in-range : ArraysInRange count A
+  pub tone : f .tone < count
+  pub free : getD (r .bits) (f .tone) 0 < limitAt A (f .tone)
+  pub bounded : r .power + f .size < 2 ^ 64
+
+-- A step of one of the tones can be given up: it is held, and the total has its size.
+pub record CanGiveUp (A : Arrays) (r : Running) (h : Step) : Type 0 where
+  pub count : ℕ
+  pub in-range : ArraysInRange count A
+  pub tone : h .tone < count
+  pub held : 0 < getD (r .bits) (h .tone) 0
+  pub under : getD (r .bits) (h .tone) 0 ≤ limitAt A (h .tone)
+  pub bounded : h .size ≤ r .power
+
+-- The kept ranks follow a move of this step: if they were those of the bits before it, they are those of the bits after it.
+pub record RanksFollow (A : Arrays) (s : Step) (old new : Running) (free held newFree newHeld : List ℕ) : Type 0 where
+  pub follow : (count : ℕ) → s .tone < count → Ranked count A (old .bits) free held → Ranked count A (new .bits) newFree newHeld
+
+module _ (count : ℕ) (A : Arrays) where
+  -- The running table stands for table t of tones T, and carries its total power.
+  abbrev pub Stands : Running → Tones → Table → Type 0
+  Stands r T t = StandsFor count A (r .bits) (r .power) T t
+
+  -- It stands for some table, and every table within the limits has a power below 2^62, so that one step more stays within 64 bits.
+  pub record Runnable (r : Running) : Type 0 where
+    pub tones : Tones
+    pub table : Table
+    pub in-range : ArraysInRange count A
+    pub stands : Stands r tones table
+    pub bounded : (u : Table) → KeepsLimits tones u → totalPower tones u < 2 ^ 62
+
+  -- What a step hands back, by the rule's own answer for table t: 'moved' with the running table of the table that the rule leaves, or
+  -- 'finished' with the running table as it came.
+  abbrev pub AnswersAs : Running → Stepped → Tones → rule.Answer → Type 0
+  AnswersAs old r T rule.finished = (r .progress ≡ Finished) × (r .running ≡ old)
+  AnswersAs old r T (rule.moved u) = (r .progress ≡ Moved) × Stands (r .running) T u
+
+  -- A step of a rule: whatever table the running table stands for, the answer is the rule's.
+  abbrev pub StepsBy : Rule → (budget : ℕ) → Running → Stepped → Type 0
+  StepsBy by budget old r = (T : Tones) (t : Table) → Stands old T t → AnswersAs old r T (ruleOf by T budget t)
+
+  -- The code's run, of at most so many moves, ends in the table of the rule's run, after as many moves, and says by their number whether
+  -- it is finished.
+  pub record EndsAs (most : ℕ) (r : Ended) (T : Tones) (ran : rule.Ran) : Type 0 where
+    pub stands : Stands (r .running) T (ran .table)
+    pub counted : r .moves ≡ ran .moves
+    pub progressed : r .progress ≡ progressAfter (ran .moves) most
+
+  abbrev pub RunsBy : Rule → (most budget : ℕ) → Running → Ended → Type 0
+  RunsBy by most budget old r = (T : Tones) (t : Table) → Stands old T t → EndsAs most r T (rule.run (ruleOf by T budget) most t)

@@ -1,0 +1,197 @@
+// The running table, the moves that change it, the step of a rule and the run of steps. Document 01, 'The loading runs': 'The running table
+// goes into a step and comes back with the answer 'moved' or 'finished'.'
+ghost use mathlib.Core.Path.{_≡_};
+ghost use Rattle.lists.specs.Lent.{before, after};
+ghost use Rattle.line.specs.Arrays.{arrays, arraysBefore};
+ghost use Rattle.ranks.specs.Ranks.{Ranked};
+ghost use Rattle.running.specs.Running.{taken, givenUp, CanTake, CanGiveUp, RanksFollow, Runnable, StepsBy, RunsBy};
+use moves::Move;
+use moves::Rule;
+use moves::Step;
+use sizes::TONES;
+
+// The running table: the bits of each tone, and the total power.
+pub struct Running {
+    pub bits: [u8; TONES],
+    pub power: u64,
+}
+
+// What a step answers.
+pub enum Progress {
+    Moved,
+    Finished,
+}
+
+// The running table comes back from a step with its answer.
+pub struct Stepped {
+    pub running: Running,
+    pub progress: Progress,
+}
+
+// The running table comes back from a run with how many of its steps moved, and with 'finished' if the last found nothing to move.
+pub struct Ended {
+    pub running: Running,
+    pub moves: u32,
+    pub progress: Progress,
+}
+
+impl Running {
+    // Takes a free step: one bit more on its tone, and its size more in all. The tone's kept ranks follow.
+    fn take(
+        mut self,
+        f: Step,
+        limits: &[u8; TONES],
+        costs: &[u32; TONES],
+        doublings: &[u8; TONES],
+        free: &mut [u64; TONES],
+        held: &mut [u64; TONES],
+    ) -> Running
+        requires { ⌜ CanTake (arrays (now limits) (now costs) (now doublings)) self f ⌝ }
+        ensures { λ r. ⌜ r ≡ taken self f ⌝ }
+        ensures { λ r. ⌜ RanksFollow (arraysBefore limits costs doublings) f self r (before free) (before held) (after free) (after held) ⌝ }
+    {
+        let tone = f.tone;
+        let bits = self.bits[tone] + 1;
+        self.bits[tone] = bits;
+        self.power += f.size;
+        ranks::put_ranks(
+            tone,
+            limits[tone],
+            costs[tone],
+            doublings[tone],
+            bits,
+            free,
+            held,
+        );
+        self
+    }
+
+    // Gives up a held step: one bit fewer on its tone, and its size less in all. The tone's kept ranks follow.
+    fn give_up(
+        mut self,
+        h: Step,
+        limits: &[u8; TONES],
+        costs: &[u32; TONES],
+        doublings: &[u8; TONES],
+        free: &mut [u64; TONES],
+        held: &mut [u64; TONES],
+    ) -> Running
+        requires { ⌜ CanGiveUp (arrays (now limits) (now costs) (now doublings)) self h ⌝ }
+        ensures { λ r. ⌜ r ≡ givenUp self h ⌝ }
+        ensures { λ r. ⌜ RanksFollow (arraysBefore limits costs doublings) h self r (before free) (before held) (after free) (after held) ⌝ }
+    {
+        let tone = h.tone;
+        let bits = self.bits[tone] - 1;
+        self.bits[tone] = bits;
+        self.power -= h.size;
+        ranks::put_ranks(
+            tone,
+            limits[tone],
+            costs[tone],
+            doublings[tone],
+            bits,
+            free,
+            held,
+        );
+        self
+    }
+
+    // One step of a rule: the one move that it names, or none.
+    fn step(
+        mut self,
+        rule: Rule,
+        budget: u64,
+        count: usize,
+        limits: &[u8; TONES],
+        costs: &[u32; TONES],
+        doublings: &[u8; TONES],
+        free: &mut [u64; TONES],
+        held: &mut [u64; TONES],
+    ) -> Stepped
+        requires { ⌜ Runnable count (arrays (now limits) (now costs) (now doublings)) self ⌝ }
+        requires { ⌜ Ranked count (arrays (now limits) (now costs) (now doublings)) (self .bits) (now free) (now held) ⌝ }
+        ensures answer { λ r. ⌜ StepsBy count (arraysBefore limits costs doublings) rule budget self r ⌝ }
+        ensures ranks { λ r. ⌜ Ranked count (arraysBefore limits costs doublings) (r .running .bits) (after free) (after held) ⌝ }
+    {
+        let earliest = search::least(count, free);
+        let latest = match rule {
+            Rule::Add => 0,
+            Rule::Refit => u64::MAX - search::least(count, held),
+        };
+        let next = moves::next_move(rule, earliest, latest, self.power, budget);
+        match next {
+            Move::Nothing => Stepped {
+                running: self,
+                progress: Progress::Finished,
+            },
+            Move::Take(f) => Stepped {
+                running: self.take(f, limits, costs, doublings, free, held),
+                progress: Progress::Moved,
+            },
+            Move::GiveUp(h) => Stepped {
+                running: self.give_up(h, limits, costs, doublings, free, held),
+                progress: Progress::Moved,
+            },
+            Move::Exchange(h, f) => {
+                let fewer = self.give_up(h, limits, costs, doublings, free, held);
+                Stepped {
+                    running: fewer.take(f, limits, costs, doublings, free, held),
+                    progress: Progress::Moved,
+                }
+            }
+        }
+    }
+}
+
+// Steps of a rule until one answers 'finished', or until `most` of them have moved; the count is of those that answered 'moved'.
+pub fn run(
+    start: Running,
+    rule: Rule,
+    most: u32,
+    budget: u64,
+    count: usize,
+    limits: &[u8; TONES],
+    costs: &[u32; TONES],
+    doublings: &[u8; TONES],
+) -> Ended
+    requires { ⌜ Runnable count (arrays (now limits) (now costs) (now doublings)) start ⌝ }
+    ensures { λ r. ⌜ RunsBy count (arraysBefore limits costs doublings) rule most budget start r ⌝ }
+{
+    let bits = start.bits;
+    let mut free = [u64::MAX; TONES];
+    let mut held = [u64::MAX; TONES];
+    ranks::fill_ranks(count, limits, costs, doublings, &bits, &mut free, &mut held);
+    let mut running = start;
+    let mut moves: u32 = 0;
+    while moves < most {
+        let stepped = running.step(
+            rule,
+            budget,
+            count,
+            limits,
+            costs,
+            doublings,
+            &mut free,
+            &mut held,
+        );
+        running = stepped.running;
+        let progress = stepped.progress;
+        match progress {
+            Progress::Moved => {
+                moves += 1;
+            }
+            Progress::Finished => {
+                return Ended {
+                    running: running,
+                    moves: moves,
+                    progress: progress,
+                };
+            }
+        }
+    }
+    Ended {
+        running: running,
+        moves: moves,
+        progress: Progress::Moved,
+    }
+}

@@ -1,0 +1,129 @@
+-- `sheet::read_commands` meets its contract. Between the turns, what remains of the reading gives what the whole gives, and the arrays index the line so far. Assumes nothing.
+use mathlib.Core.Path.{_≡_}
+use Prim.Native.Nat.{suc, _-_}
+use native.Mathlib.Omega.{arith}
+use borrow.Author.Needs.{needs}
+use lib.ListN.{length, getD}
+use Rattle.line.specs.Line.{entryOf}
+use Rattle.command.specs.declared.Command.{Command}
+use Rattle.command.specs.Places.{entryAt}
+use Rattle.command.specs.Format.{today, addressed, commandAt}
+use Rattle.command.proofs.Said.{Said}
+use Rattle.sheet.specs.Reading.{headerOf}
+use Rattle.sheet.proofs.Turns.{Going, starts, said, on-refused, on-more, on-end, on-head, on-describe, on-silence}
+use Rattle.sheet.proofs.read_commands.Statement.{statement}
+use Rattle.sheet.proofs.read_commands.Tie as tie
+
+abbrev Inv-loop : tie.InvT-loop
+Inv-loop s places₀ maps₀ header₀ stage₀ at₀ places maps header stage at = Going s places maps header at stage
+
+abbrev μ-loop : tie.MeasureT-loop
+μ-loop s places₀ maps₀ header₀ stage₀ at₀ places maps header stage at = suc (length s) - at
+
+-- what was decoded, with the place of the tone that the command addresses
+met : (c : tie.After-decode Inv-loop μ-loop) →
+    let a = c .before .before .before in
+    let s = a .before .before .args .s .now in
+    c .decode .result ≡ commandAt today (a .loop .header) (entryAt s (getD (a .loop .places) (addressed s (a .loop .at)) 0)) s (a .loop .at) (a .loop .stage)
+met c = rw (c .before .before .addressed .ensures .0) at (c .decode .ensures)
+
+-- what is known of the command
+known : (c : tie.After-decode Inv-loop μ-loop) (m : Command) → c .decode .result .command ≡ m →
+    let a = c .before .before .before in
+    let l = a .loop .inv .line in
+    let s = a .before .before .args .s .now in
+    Said (headerOf l) (entryOf l (addressed s (a .loop .at))) s (a .loop .at) (a .loop .stage) (c .decode .result .next) m
+known c = said (c .before .before .before .loop .inv) (met c)
+
+loop-holds : tie.Need-loop-holds Inv-loop μ-loop
+loop-holds c = rw (c .before .pre .0, c .before .pre .1) (starts _)
+
+mul-decode : tie.Need-mul-decode Inv-loop μ-loop
+mul-decode c = record { fits = omega (arith, c .addressed .ensures .1) }
+
+element-copy-out-decode : tie.Need-element-copy-out-decode Inv-loop μ-loop
+element-copy-out-decode c = c .addressed .ensures .1
+
+cast-t22 : tie.Need-cast-t22 Inv-loop μ-loop
+cast-t22 c = let k = known (c .before .before .before) _ (c .before .enum-told .given .1) in record { fits = omega arith }
+
+returns : tie.Need-returns Inv-loop μ-loop
+returns c = on-more (c .before .before .before .before .before .before .loop .inv) (met (c .before .before .before)) (c .before .enum-told .given .1) (c .if1 .taken)
+
+returns-2 : tie.Need-returns-2 Inv-loop μ-loop
+returns-2 c = on-end (c .before .before .before .before .before .before .loop .inv) (met (c .before .before .before)) (c .before .enum-told .given .1) (c .if1 .left)
+
+returns-3 : tie.Need-returns-3 Inv-loop μ-loop
+returns-3 c = on-refused (c .before .before .before .before .before .before .loop .inv) (met (c .before .before .before)) _ (c .before .command .given .1)
+
+add-stage : tie.Need-add-stage Inv-loop μ-loop
+add-stage c = let k = known (c .before .before .before) _ (c .before .command2 .given .1) in record { fits = omega arith }
+
+cast-places : tie.Need-cast-places Inv-loop μ-loop
+cast-places c = let k = known (c .before .before .before) _ (c .before .command3 .given .1) in record { fits = omega arith }
+
+element-write-places : tie.Need-element-write-places Inv-loop μ-loop
+element-write-places c = let k = known (c .before .before .before) _ (c .before .command3 .given .1) in omega (arith, c .before .before .before .before .before .addressed .ensures .0, c .before .before .before .before .before .addressed .ensures .1)
+
+mul-maps : tie.Need-mul-maps Inv-loop μ-loop
+mul-maps c = let k = known (c .before .before .before) _ (c .before .command4 .given .1) in record { fits = omega arith }
+
+element-copy-out-maps : tie.Need-element-copy-out-maps Inv-loop μ-loop
+element-copy-out-maps c = let k = known (c .before .before .before) _ (c .before .command4 .given .1) in omega arith
+
+element-write-maps : tie.Need-element-write-maps Inv-loop μ-loop
+element-write-maps c = let k = known (c .before .before .before .before) _ (c .before .before .command4 .given .1) in omega arith
+
+loop-less : tie.Need-loop-less Inv-loop μ-loop
+loop-less c = let k = known (c .before .before .before) _ (c .before .command2 .given .1) in omega arith
+
+loop-again : tie.Need-loop-again Inv-loop μ-loop
+loop-again c = on-head (c .before .before .before .before .before .before .loop .inv) (met (c .before .before .before)) _ (c .before .command2 .given .1)
+
+loop-less-2 : tie.Need-loop-less-2 Inv-loop μ-loop
+loop-less-2 c = let k = known (c .before .before .before) _ (c .before .command3 .given .1) in omega arith
+
+loop-again-2 : tie.Need-loop-again-2 Inv-loop μ-loop
+loop-again-2 c = on-describe (c .before .before .before .before .before .before .loop .inv) (met (c .before .before .before)) _ (omega (arith, c .before .before .before .before .before .addressed .ensures .0, c .before .before .before .before .before .addressed .ensures .1)) (c .before .command3 .given .1)
+
+loop-less-3 : tie.Need-loop-less-3 Inv-loop μ-loop
+loop-less-3 c = let k = known (c .before .before .before .before) _ (c .before .before .command4 .given .1) in omega arith
+
+loop-again-3 : tie.Need-loop-again-3 Inv-loop μ-loop
+loop-again-3 c = on-silence (c .before .before .before .before .before .before .before .loop .inv) (met (c .before .before .before .before)) _ _ (search needs) (c .before .before .command4 .given .1)
+
+pub read-commands-spec : {M : Type 1} → statement M
+read-commands-spec =
+    tie.close
+    (tie.spec
+    Inv-loop
+    μ-loop
+    loop-holds
+    (λ c κs. search needs)
+    mul-decode
+    element-copy-out-decode
+    (λ c κs. search needs)
+    (λ c. search needs)
+    cast-t22
+    returns
+    returns-2
+    (λ c. search needs)
+    returns-3
+    (λ c. search needs)
+    add-stage
+    (λ c. search needs)
+    cast-places
+    (λ c. search needs)
+    (λ c. search needs)
+    element-write-places
+    (λ c. search needs)
+    (λ c. search needs)
+    mul-maps
+    element-copy-out-maps
+    element-write-maps
+    loop-less
+    loop-again
+    loop-less-2
+    loop-again-2
+    loop-less-3
+    loop-again-3)

@@ -1,0 +1,45 @@
+-- The sizes that document 01 sets, each named once.
+-- Assumes nothing.
+use Prim.Native.Nat.{ℕ, _+_, _*_, _/_, _^_}
+
+-- 'A sheet has N tones, 1 to 256.'
+abbrev pub mostTones : ℕ
+mostTones = 256
+
+-- 'word 1 (0 to 7), map 4': a word has 32 tones, one for each bit of its map
+abbrev pub mostWords : ℕ
+mostWords = 8
+
+abbrev pub wordTones : ℕ
+wordTones = 32
+
+-- the words that n tones take
+abbrev pub wordsOf : (n : ℕ) → ℕ
+wordsOf n = (n + 31) / wordTones
+
+-- 'in at most 4,096 bytes'
+abbrev pub longestSheet : ℕ
+longestSheet = 4096
+
+-- 'pair (two-dimensional, cap 0 to 15) and single (one-dimensional, cap 0 to 7)'
+abbrev pub pairCap : ℕ
+pairCap = 15
+
+abbrev pub singleCap : ℕ
+singleCap = 7
+
+-- 'mask (0 to 2^47)', 'the budget (0 to 2^47)'
+abbrev pub mostPower : ℕ
+mostPower = 2 ^ 47
+
+-- no line's limits add up to more than this: the most tones, each of the largest cap
+abbrev pub mostBitsOfAll : ℕ
+mostBitsOfAll = mostTones * pairCap
+
+-- 'A loading writes 9 bytes a tone'
+abbrev pub bytesATone : ℕ
+bytesATone = 9
+
+-- 'an answer buffer of at least 24 bytes'
+abbrev pub answerRoom : ℕ
+answerRoom = 24

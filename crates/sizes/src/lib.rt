@@ -1,0 +1,29 @@
+// The sizes that document 01 sets, each named once. specs/Sizes.antt has the same names for the definitions.
+
+// The most tones of a line.
+pub const TONES: usize = 256;
+
+// The words of the silence maps, and the tones of a word.
+pub const WORDS: usize = 8;
+
+pub const WORD_TONES: u32 = 32;
+
+// The longest sheet, in bytes.
+pub const SHEET_BYTES: usize = 4096;
+
+// The largest cap of a pair tone and of a single tone.
+pub const PAIR_CAP: u8 = 15;
+
+pub const SINGLE_CAP: u8 = 7;
+
+// The most bits of a line: the most tones, each of the largest cap.
+pub const MOST_BITS: u32 = TONES as u32 * PAIR_CAP as u32;
+
+// The largest budget and the largest mask: 2^47.
+pub const MOST_POWER: u64 = 0x8000_0000_0000;
+
+// The bytes of a tone in a written table: its bits, and its power in 8 bytes.
+pub const TONE_BYTES: usize = 9;
+
+// The least room for the answers of a host call, in bytes.
+pub const ANSWER_BYTES: usize = 24;

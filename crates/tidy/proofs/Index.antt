@@ -1,0 +1,48 @@
+-- What the index of an accepted sheet says of the tidy form: how long it is, and the stores that write it.
+-- Assumes nothing.
+use mathlib.Core.List.{List}
+use mathlib.Core.Path.{_≡_, sym, ap, _∙_}
+use Prim.Native.Nat.{ℕ, _+_}
+use native.Mathlib.Omega.{arith}
+use lib.ListN.{length, getD, set}
+use lib.Seq.{sets}
+use Rattle.sizes.specs.Sizes.{mostWords, wordsOf}
+use Rattle.bigendian.specs.Number.{bytes}
+use Rattle.line.specs.Line.{Line}
+use Rattle.command.specs.declared.Header.{Header}
+use Rattle.sheet.specs.Reading.{accepted, reading}
+use Rattle.sheet.specs.Index.{Indexed}
+use Rattle.sheet.proofs.Sound.{Bytes}
+use Rattle.sheet.proofs.Uses.{size-is, line-sound}
+use Rattle.tidyform.specs.Tidy.{toneBytes, mapBytes, tidy}
+use Rattle.tidyform.proofs.Length.{length-tidy}
+use Rattle.tidy.specs.Copies.{Inside, copies}
+use Rattle.tidy.proofs.Copies.{copies-are, maps-are}
+use Rattle.tidy.proofs.Writes.{line-stores}
+
+module _ {s places maps : List ℕ} {h : Header} (x : Indexed s h places maps) where
+  pub tones-inside : (i : ℕ) → Inside s (getD places i 0)
+  tones-inside i = record { whole = λ k. x .indexes .stands i k .inside }
+
+  module _ (b : Bytes s) where
+    tones-are : toneBytes (x .line .size) (x .line .entries) ≡ copies (h .size) s places
+    tones-are = copies-are s b (x .indexes) (x .line .size) ∙ ap (λ (n : ℕ). copies n s places) (size-is x)
+
+    words-are : mapBytes (wordsOf (x .line .size)) (x .line .maps) ≡ mapBytes mostWords maps
+    words-are = maps-are (x .line) (line-sound x b) (x .indexes)
+
+    -- for the line that the sheet means
+    module _ (l : Line) (e : reading s ≡ accepted l) where
+      is-line : l ≡ x .line
+      is-line = cc (x .means)
+
+      pub tidy-bytes : length (tidy l) ≡ 16 + length (copies (h .size) s places) + length (mapBytes mostWords maps)
+      tidy-bytes = rw is-line (omega (arith, length-tidy (x .line), ap length tones-are, ap length words-are))
+
+      pub tidy-stores : (out : List ℕ)
+          → (let head = sets (set (sets (set (sets (set out 0 1) 1 (bytes 2 (h .size))) 3 2) 4 (bytes 2 (h .gap))) 6 3) 7 (bytes 8 (h .budget)) in
+          let tones = copies (h .size) s places in
+          let words = mapBytes mostWords maps in
+          set (sets (sets head 15 tones) (15 + length tones) words) (15 + length tones + length words) 7)
+          ≡ sets out 0 (tidy l)
+      tidy-stores out = rw is-line (sym (line-stores out (x .line) h _ _ (x .header-is) tones-are words-are))

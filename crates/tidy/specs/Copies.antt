@@ -1,0 +1,23 @@
+-- The described tones of the tidy form as they are written: each command copied from its place in the sheet.
+-- Assumes nothing.
+use mathlib.Core.List.{List, [], _∷_, _++_}
+use Prim.Native.Nat.{ℕ, zero, suc, _+_, _≤_, _<_}
+use lib.ListN.{length, getD}
+
+-- the bytes of a sheet from a place on
+unfoldable pub part : List ℕ → (at width : ℕ) → List ℕ
+part s at zero = []
+part s at (suc w) = part s at w ++ (getD s (at + w) 0 ∷ [])
+
+-- a tone's command that stands at a place is all there; none stands at 0
+pub record Inside (s : List ℕ) (place : ℕ) : Type 0 where
+  pub whole : 0 < place → place + 15 ≤ length s
+
+-- the command of a tone, copied from its place; none where it has no place
+abbrev pub toneCopy : List ℕ → (place : ℕ) → List ℕ
+toneCopy s zero = []
+toneCopy s (suc p) = part s (suc p) 15
+
+unfoldable pub copies : (count : ℕ) → (s places : List ℕ) → List ℕ
+copies zero s places = []
+copies (suc n) s places = copies n s places ++ toneCopy s (getD places n 0)

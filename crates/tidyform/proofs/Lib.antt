@@ -1,0 +1,7 @@
+pub mod Parts
+pub mod Length
+pub mod Written
+pub mod Operands
+pub mod RoundTrip
+pub mod Tidied
+pub mod Examples

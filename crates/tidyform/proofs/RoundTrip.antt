@@ -1,0 +1,179 @@
+-- A line in its tidy form reads back as that line. Laws:
+--   filled-all                        a list filled from the front is the list
+--   tones-end, maps-end, head-ends    the tones, the maps and the first three commands read on to the whole line
+--   tidy-reads                        so does the tidy form
+-- Assumes nothing.
+use mathlib.Core.Path.{_≡_, refl, sym, ap, _∙_}
+use mathlib.Core.Bool.{Bool, true, false, cond}
+use mathlib.Core.List.{List, [], _∷_, _++_, append-assoc}
+use mathlib.Core.Logic.{inl, inr}
+use Prim.Native.Nat.{ℕ, zero, suc, _+_, _≤_, _<_}
+use native.Mathlib.Nat.{eq-or-lt-of-le, le-of-suc-le-suc, not-suc-le-zero}
+use native.Mathlib.Omega.{arith}
+use borrow.Author.Tests.{le-ltb, eqb-true}
+use lib.Dec.{eqb}
+use lib.ListN.{length, getD, set, drop, replicate, length-set, length-replicate}
+use lib.Seq.{getD-set-same, getD-set-other, set-getD, ext-getD}
+use Rattle.sizes.specs.Sizes.{mostPower, mostWords, mostTones, longestSheet, wordsOf}
+use Rattle.lists.proofs.Stores.{all-same}
+use Rattle.bigendian.proofs.Numbers.{bytes-one}
+use Rattle.silence.proofs.Maps.{clear-beyond}
+use Rattle.line.specs.declared.Tone.{Tone}
+use Rattle.line.specs.Tone.{carried, isSingle, gapUnit, InRange}
+use Rattle.line.specs.Line.{Entry, undescribed, described, EntryInRange, LineInRange, Line}
+use Rattle.command.specs.declared.Command.the-variants.{Describe, Silence}
+use Rattle.command.specs.Rows.{gap, budget, end}
+use Rattle.command.specs.Codes.{sizeRow, toneRow, silenceRow}
+use Rattle.sheet.specs.Reading.{accepted, readingIn, reading, emptyLine, afterCommand, go}
+use Rattle.sheet.proofs.Sound.{Sound}
+use Rattle.tidyform.specs.Tidy.{written, numbersOf, entryBytes, wordBytes, toneBytes, mapBytes, tidy}
+use Rattle.tidyform.proofs.Parts.{row-is-tone}
+use Rattle.tidyform.proofs.Length.{tidy-short}
+use Rattle.tidyform.proofs.Written.{seenIn, Good, nothing, Reads, reads-written, reads-end}
+use Rattle.tidyform.proofs.Operands.{ranged, newMap, good-tone, tone-found, tone-does, tone-stands}
+
+-- A list filled from the front.
+
+module _ {A : Type 0} (absent : A) (room : ℕ) (xs : List A) where
+  -- nothing, but for the first n elements, which are those of xs
+  filled : (n : ℕ) → List A
+  filled zero = replicate room absent
+  filled (suc n) = set (filled n) n (getD xs n absent)
+
+  length-filled : (n : ℕ) → length (filled n) ≡ room
+  unfolding filled
+  length-filled zero = length-replicate room absent
+  length-filled (suc n) = length-set (filled n) n (getD xs n absent) ∙ length-filled n
+
+  absent-from : (n i : ℕ) → n ≤ i → getD (filled n) i absent ≡ absent
+  unfolding filled
+  absent-from zero i h = all-same room i absent
+  absent-from (suc n) i h = getD-set-other (filled n) n i (getD xs n absent) absent (λ e. omega arith) ∙ absent-from n i (omega arith)
+
+  filled-below : (n i : ℕ) → i < n → n ≤ room → getD (filled n) i absent ≡ getD xs i absent
+  unfolding filled
+  filled-below zero i h g = absurd (not-suc-le-zero h)
+  filled-below (suc n) i h g = elim (eq-or-lt-of-le (le-of-suc-le-suc h)) [
+    | inl e ↦ rw e (getD-set-same (filled n) n (getD xs n absent) absent (omega (arith, length-filled n)))
+    | inr l ↦ getD-set-other (filled n) n i (getD xs n absent) absent (λ e. omega arith) ∙ filled-below n i l (omega arith)
+  ]
+
+  filled-all : length xs ≡ room → filled room ≡ xs
+  filled-all e = ext-getD absent (filled room) xs (length-filled room ∙ sym e) (λ i l. filled-below room i (omega (arith, length-filled room)) (omega arith))
+
+  -- an element that is not there changes nothing
+  filled-skip : (n : ℕ) → getD xs n absent ≡ absent → filled (suc n) ≡ filled n
+  unfolding filled
+  filled-skip n e = ap (set (filled n) n) (e ∙ sym (absent-from n n (omega arith))) ∙ set-getD (filled n) n absent
+
+-- The reading of the tidy form.
+
+regroup : (a b c d e f : List ℕ) → a ++ b ++ c ++ d ++ e ++ f ≡ a ++ (b ++ (c ++ (d ++ (e ++ f))))
+regroup a b c d e f = simp append-assoc
+
+-- the line when n tones and m maps have been read
+part : Line → (n m : ℕ) → Line
+part l n m = record {
+  size = l .size;
+  gap = l .gap;
+  budget = l .budget;
+  entries = filled undescribed (l .size) (l .entries) n;
+  maps = filled 0 (wordsOf (l .size)) (l .maps) m;
+}
+
+-- from there on this list reads to the end, and to the whole line
+abbrev Ends : Line → List ℕ → (n m : ℕ) → Type 0
+Ends l q n m = Reads q 3 (part l n m) (accepted l)
+
+module _ (l : Line) (S : Sound l) where
+  -- Tones.
+
+  tone-goes : (n : ℕ) (t : Tone) (q : List ℕ) → getD (l .entries) n undescribed ≡ described t → InRange t → (s : List ℕ) (at to : ℕ) → at ≤ length s
+      → drop at s ≡ entryBytes n (described t) ++ q → afterCommand (Describe n) to s at 3 (part l n 0) ≡ go to 3 (part l (suc n) 0)
+  unfolding part filled
+  tone-goes n t q e I s at to h d = rw (e, tone-stands s q at n t I h d)
+
+  tone-good : (n : ℕ) (t : Tone) (q : List ℕ) → n < l .size → InRange t
+      → Good (seenIn (part l n 0) (entryBytes n (described t) ++ q)) (toneRow (isSingle (t .kind)) .operands) (numbersOf n (carried t))
+  unfolding part
+  tone-good n t q h I =
+      let new = absent-from undescribed (l .size) (l .entries) n n (omega arith) in
+      let here = bytes-one n (omega (arith, S .in-range .size-high)) in
+      good-tone n t (omega (arith, S .in-range .size-high)) h (rw (row-is-tone (isSingle (t .kind)), here, new)) I
+
+  entry-ends : (n : ℕ) (e : Entry) (q : List ℕ) → n < l .size → getD (l .entries) n undescribed ≡ e → EntryInRange e
+      → Ends l q (suc n) 0 → Ends l (entryBytes n e ++ q) n 0
+  unfolding part
+  entry-ends n undescribed q h e I ends = rw (← filled-skip undescribed (l .size) (l .entries) n e) ends
+  entry-ends n (described t) q h e I ends =
+      let single : Bool = isSingle (t .kind) in
+      reads-written (part l n 0) 3 (toneRow single) (numbersOf n (carried t)) q (tone-found single) (tone-good n t q h I)
+      (λ s at k d. rw (tone-does single) (tone-goes n t q e I s at _ k d)) ends
+
+  tones-end : (n : ℕ) (q : List ℕ) → n ≤ l .size → Ends l q n 0 → Ends l (toneBytes n (l .entries) ++ q) 0 0
+  unfolding toneBytes
+  tones-end zero q h ends = ends
+  tones-end (suc n) q h ends =
+      let e : Entry = getD (l .entries) n undescribed in
+      rw append-assoc (tones-end n (entryBytes n e ++ q) (omega arith) (entry-ends n e q h refl (S .in-range .entries n h) ends))
+
+  -- Maps.
+
+  map-goes : (n to : ℕ) (s : List ℕ) (at : ℕ)
+      → afterCommand (Silence n (getD (l .maps) n 0)) to s at 3 (part l (l .size) n) ≡ go to 3 (part l (l .size) (suc n))
+  unfolding part filled
+  map-goes n to s at =
+      let new : getD (filled 0 (wordsOf (l .size)) (l .maps) n) n 0 ≡ 0 = absent-from 0 (wordsOf (l .size)) (l .maps) n n (omega arith) in
+      rw new
+
+  map-good : (n : ℕ) (q : List ℕ) → n < wordsOf (l .size) → Good (seenIn (part l (l .size) n) q) (silenceRow .operands) (n ∷ getD (l .maps) n 0 ∷ [])
+  unfolding part
+  map-good n q h =
+      let v : ℕ = getD (l .maps) n 0 in
+      let k : n < mostWords = omega (arith, S .in-range .size-high) in
+      ranged 1 0 7 n (omega arith) (omega arith) (omega arith) (newMap v (S .maps-small n) (clear-beyond (l .size) n v (λ k b. S .maps-within n k)))
+
+  map-ends : (n : ℕ) (empty : Bool) (q : List ℕ) → n < wordsOf (l .size) → eqb (getD (l .maps) n 0) 0 ≡ empty → Ends l q (l .size) (suc n)
+      → Ends l (cond empty [] (written silenceRow (n ∷ getD (l .maps) n 0 ∷ [])) ++ q) (l .size) n
+  unfolding part
+  map-ends n true q h e ends = rw (← filled-skip 0 (wordsOf (l .size)) (l .maps) n (eqb-true (getD (l .maps) n 0) 0 e)) ends
+  map-ends n false q h e ends =
+      let vs : List ℕ = n ∷ getD (l .maps) n 0 ∷ [] in
+      reads-written (part l (l .size) n) 3 silenceRow vs q refl (map-good n (written silenceRow vs ++ q) h) (λ s at k d. map-goes n _ s at) ends
+
+  maps-end : (n : ℕ) (q : List ℕ) → n ≤ wordsOf (l .size) → Ends l q (l .size) n → Ends l (mapBytes n (l .maps) ++ q) (l .size) 0
+  unfolding mapBytes
+  maps-end zero q h ends = ends
+  maps-end (suc n) q h ends =
+      let v : ℕ = getD (l .maps) n 0 in
+      rw append-assoc (maps-end n (wordBytes n v ++ q) (omega arith) (map-ends n (eqb v 0) q h refl ends))
+
+  -- The whole.
+
+  part-all : part l (l .size) (wordsOf (l .size)) ≡ l
+  unfolding part
+  part-all = rw (filled-all undescribed (l .size) (l .entries) (S .entries-sized), filled-all 0 (wordsOf (l .size)) (l .maps) (S .maps-sized))
+
+  -- the first three commands
+  head-ends : (q : List ℕ) → Ends l q 0 0
+      → Reads (written sizeRow (l .size ∷ []) ++ (written gap (l .gap ∷ []) ++ (written budget (l .budget ∷ []) ++ q))) 0 emptyLine (accepted l)
+  unfolding part filled
+  head-ends q ends =
+      let I : LineInRange l = S .in-range in
+      reads-written emptyLine 0 sizeRow (l .size ∷ []) _ refl (ranged 2 1 mostTones (l .size) (omega arith) (I .size-low) (I .size-high) nothing) (λ s at k d. refl)
+      (reads-written _ 1 gap (l .gap ∷ []) _ refl (ranged 2 gapUnit 65535 (l .gap) (omega arith) (I .gap .low) (I .gap .high) nothing) (λ s at k d. refl)
+      (reads-written _ 2 budget (l .budget ∷ []) q refl (ranged 8 0 mostPower (l .budget) (omega arith) (omega arith) (I .budget-high) nothing) (λ s at k d. refl) ends))
+
+  tidy-parts : tidy l ≡ written sizeRow (l .size ∷ []) ++ (written gap (l .gap ∷ []) ++ (written budget (l .budget ∷ [])
+      ++ (toneBytes (l .size) (l .entries) ++ (mapBytes (wordsOf (l .size)) (l .maps) ++ written end []))))
+  unfolding tidy
+  tidy-parts = regroup (written sizeRow (l .size ∷ [])) (written gap (l .gap ∷ [])) (written budget (l .budget ∷ [])) _ _ _
+
+  tidy-ends : Reads (tidy l) 0 emptyLine (accepted l)
+  tidy-ends = rw tidy-parts (head-ends _ (tones-end (l .size) _ (omega arith) (maps-end (wordsOf (l .size)) _ (omega arith) (rw part-all (reads-end l)))))
+
+  pub tidy-reads : reading (tidy l) ≡ accepted l
+  unfolding readingIn
+  tidy-reads =
+      rw (le-ltb longestSheet (length (tidy l)) (tidy-short l (S .in-range .size-high)))
+      (tidy-ends (tidy l) 0 (suc (length (tidy l))) (omega arith) refl (omega arith))

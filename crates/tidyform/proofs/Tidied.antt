@@ -1,0 +1,64 @@
+-- The tidy form of every accepted sheet is accepted and reads as the same line, is its own tidy form, and is no longer than the sheet.
+-- Assumes nothing.
+use mathlib.Core.Bool.{Bool, true, false}
+use mathlib.Core.List.{List}
+use mathlib.Core.Path.{_≡_, ap, sym, _∙_}
+use Prim.Native.Nat.{ℕ, zero, suc, _+_, _≤_}
+use native.Mathlib.Nat.{le-trans}
+use native.Mathlib.Omega.{arith}
+use lib.ListN.{length}
+use Rattle.bigendian.specs.Number.{number}
+use Rattle.line.specs.Line.{Line}
+use Rattle.command.specs.Rows.{tone}
+use Rattle.command.specs.Codes.{silenceRow}
+use Rattle.command.specs.Format.{today}
+use Rattle.command.proofs.Walk.{Each}
+use Rattle.sheet.specs.Reading.{accepted, reading}
+use Rattle.sheet.proofs.Walk.{Leads, accepted-by}
+use Rattle.sheet.proofs.Sound.{Bytes, accepted-sound}
+use Rattle.tidyform.specs.Tidy.{tidy}
+use Rattle.tidyform.specs.Claims.{TidyKeeps}
+use Rattle.tidyform.proofs.Length.{tidy-short, tidy-bare, tidy-describe, tidy-silence}
+use Rattle.tidyform.proofs.RoundTrip.{tidy-reads}
+
+-- After so many of the first three commands the sheet has their bytes, and after all three those of its line's tidy form but for the
+-- end command's.
+abbrev Long : (at stage : ℕ) → Line → Type 0
+Long at zero l = Unit {0}
+Long at (suc zero) l = 3 ≤ at
+Long at (suc (suc zero)) l = 6 ≤ at
+Long at (suc (suc (suc n))) l = length (tidy l) ≤ at + 1
+
+module _ (s : List ℕ) where
+  abbrev NoLonger : Line → Type 0
+  NoLonger l = length (tidy l) ≤ length s
+
+  long : (at stage : ℕ) (l : Line) → Long at stage l → Each (Leads today s Long NoLonger at stage l) (today .rows stage)
+  long at zero l h = (λ is inside p. omega arith, tt)
+  long at (suc zero) l h = (λ is inside p. omega arith, tt)
+  long at (suc (suc zero)) l h =
+      (λ is inside p. omega (arith, tidy-bare (record { size = l .size; gap = l .gap; budget = number s (at + 1) 8 })), tt)
+  long at (suc (suc (suc n))) l h = (described 4 false, (described 5 true, (silenced, (λ is inside p end. omega arith, tt))))
+    where
+      described : (code : ℕ) (single : Bool) → Leads today s Long NoLonger at (suc (suc (suc n))) l (tone code single)
+      described code single is inside p = le-trans (tidy-describe l s at _) (omega arith)
+
+      silenced : Leads today s Long NoLonger at (suc (suc (suc n))) l silenceRow
+      silenced is inside p = le-trans (tidy-silence l s at _ _) (omega arith)
+
+  tidy-no-longer : (l : Line) → reading s ≡ accepted l → NoLonger l
+  tidy-no-longer = accepted-by today s Long NoLonger long tt
+
+pub tidy-keeps : (s : List ℕ) → Bytes s → (l : Line) → reading s ≡ accepted l → TidyKeeps s l
+tidy-keeps s b l e = record {
+  keeps-line = same;
+  returns-tidy = λ k f. ap tidy (line-of k (sym f ∙ same));
+  no-longer = tidy-no-longer s l e;
+  short = tidy-short l (accepted-sound s b l e .in-range .size-high);
+}
+  where
+    same : reading (tidy l) ≡ accepted l
+    same = tidy-reads l (accepted-sound s b l e)
+
+    line-of : (k : Line) → accepted k ≡ accepted l → k ≡ l
+    line-of k f = cc

@@ -1,0 +1,127 @@
+-- A written command reads back as what it does, wherever it stands in a sheet.
+-- Assumes nothing.
+use mathlib.Core.Path.{_≡_, refl, sym, ap, _∙_}
+use mathlib.Core.Bool.{false}
+use mathlib.Core.List.{List, [], _∷_, _++_, append-nil, append-assoc}
+use mathlib.Core.Option.{none, some}
+use Prim.Native.Nat.{ℕ, zero, suc, _+_, _^_, _≤_, _<_}
+use native.Mathlib.Omega.{arith}
+use borrow.Author.Tests.{le-ltb, lt-leb}
+use lib.Dec.{leb, ltb}
+use lib.ListN.{length, getD, drop, length-append, length-drop}
+use lib.Seq.{getD-drop, drop-drop, drop-at}
+use Rattle.bigendian.specs.Number.{number, bytes}
+use Rattle.bigendian.proofs.Numbers.{number-same, number-here, length-bytes}
+use Rattle.line.specs.Line.{Line, entryOf}
+use Rattle.command.specs.declared.Command.{Command}
+use Rattle.command.specs.Rows.{Seen, Operand, Row, withCode, width, operandsFrom, rowAt, end}
+use Rattle.command.specs.Format.{today, addressed, decoded}
+use Rattle.command.proofs.Walk.{seenAt}
+use Rattle.sheet.specs.Reading.{Meaning, accepted, go, headerOf, commandIn, afterCommand, readFrom}
+use Rattle.tidyform.specs.Tidy.{operandBytes, written}
+
+-- What stands in a sheet from a place on.
+
+pub byte-stands : (s q : List ℕ) (at v : ℕ) → drop at s ≡ v ∷ q → getD s at 0 ≡ v
+byte-stands s q at v e =
+    let z : at ≡ at + 0 = omega arith in
+    ap (λ (k : ℕ). getD s k 0) z ∙ sym (getD-drop at s 0 0) ∙ ap (λ (t : List ℕ). getD t 0 0) e
+
+pub number-stands : (s q : List ℕ) (at w v : ℕ) → v < 256 ^ w → drop at s ≡ bytes w v ++ q → number s at w ≡ v
+number-stands s q at w v h e = number-same s (drop at s) at 0 w same ∙ ap (λ (t : List ℕ). number t 0 w) e ∙ number-here [] q w v 0 refl h
+  where
+    same : (i : ℕ) → i < w → getD s (at + i) 0 ≡ getD (drop at s) (0 + i) 0
+    same i l =
+        let z : 0 + i ≡ i = omega arith in
+        rw (z, getD-drop)
+
+-- what stands after it
+pub stands-after : (s p q : List ℕ) (at w : ℕ) → length p ≡ w → drop at s ≡ p ++ q → drop (at + w) s ≡ q
+stands-after s p q at w l e = sym (drop-drop w at s) ∙ ap (drop w) e ∙ drop-at p q w l
+
+pub stands-length : (s q : List ℕ) (at : ℕ) → at ≤ length s → drop at s ≡ q → length s ≡ at + length q
+stands-length s q at h e = omega (arith, ap length e, length-drop at s)
+
+-- Operands.
+
+-- what the next operand is judged by
+abbrev pub after : Seen → (value : ℕ) → Seen
+after seen v = record { header = seen .header; known = seen .known; before = seen .before ++ (v ∷ []) }
+
+-- what the first is judged by, with the line so far, where these bytes stand
+abbrev pub seenIn : Line → List ℕ → Seen
+seenIn l q = seenAt (headerOf l) (entryOf l (addressed q 0))
+
+-- the values fit their operands' widths and meet no refusal
+pub data Good : Seen → List Operand → (values : List ℕ) → Type 0 where
+  nothing : {seen : Seen} → Good seen [] []
+  value : {seen : Seen} {o : Operand} {os : List Operand} {v : ℕ} {vs : List ℕ} → v < 256 ^ o .width → ((place : ℕ) → o .judge seen v place ≡ none)
+      → Good (after seen v) os vs → Good seen (o ∷ os) (v ∷ vs)
+
+length-operands : {seen : Seen} {os : List Operand} {vs : List ℕ} → Good seen os vs → length (operandBytes os vs) ≡ width os
+length-operands nothing = refl
+length-operands (value {o = o} {v = v} h p g) = simp (length-append, length-bytes) (omega (arith, length-operands g))
+
+-- operands that stand there make the command do what their values do
+operands-done : {seen : Seen} {os : List Operand} {vs : List ℕ} (s q : List ℕ) (at : ℕ) (does : List ℕ → Command) → Good seen os vs
+    → drop at s ≡ operandBytes os vs ++ q → operandsFrom seen s at os does ≡ does (seen .before ++ vs)
+operands-done {seen} s q at does nothing e = ap does (sym (append-nil (seen .before)))
+operands-done {seen} s q at does (value {o = o} {os = os} {v = v} {vs = vs} h p g) e =
+    let rest : List ℕ = operandBytes os vs ++ q in
+    let e′ : drop at s ≡ bytes (o .width) v ++ rest = e ∙ append-assoc (bytes (o .width) v) (operandBytes os vs) q in
+    let n : number s at (o .width) ≡ v = number-stands s rest at (o .width) v h e′ in
+    rw (n, p at)
+    (operands-done s q (at + o .width) does g (stands-after s (bytes (o .width) v) rest at (o .width) (length-bytes (o .width) v) e′)
+    ∙ ap does (append-assoc (seen .before) (v ∷ []) vs))
+
+-- Commands.
+
+-- wherever a sheet ends in this list, reading on from there comes out so
+abbrev pub Reads : List ℕ → (stage : ℕ) → Line → Meaning → Type 0
+Reads q stage l out = (s : List ℕ) (at most : ℕ) → at ≤ length s → drop at s ≡ q → length q < most → readFrom today most s at stage l ≡ out
+
+-- the place after a command
+abbrev pub next : Row → (at : ℕ) → ℕ
+next r at = at + 1 + width (r .operands)
+
+module _ (l : Line) (stage : ℕ) (r : Row) (vs q : List ℕ) (found : withCode (today .rows stage) (r .code) ≡ some r)
+    (good : Good (seenIn l (written r vs ++ q)) (r .operands) vs) where
+  length-written : length (written r vs ++ q) ≡ 1 + width (r .operands) + length q
+  length-written = simp length-append (omega (arith, length-operands good))
+
+  module _ (s : List ℕ) (at : ℕ) (e : drop at s ≡ written r vs ++ q) where
+    operands-stand : drop (at + 1) s ≡ operandBytes (r .operands) vs ++ q
+    operands-stand = stands-after s (r .code ∷ []) (operandBytes (r .operands) vs ++ q) at 1 refl e
+
+    next-stands : drop (next r at) s ≡ q
+    next-stands = stands-after s (operandBytes (r .operands) vs) q (at + 1) (width (r .operands)) (length-operands good) operands-stand
+
+    length-sheet : at ≤ length s → length s ≡ next r at + length q
+    length-sheet h = omega (arith, stands-length s (written r vs ++ q) at h e, length-written)
+
+    command-stands : at ≤ length s → commandIn today l s at stage ≡ record { command = r .does (headerOf l) vs; next = next r at }
+    unfolding decoded rowAt
+    command-stands h =
+        let there : leb (length s) at ≡ false = lt-leb (length s) at (omega (arith, length-sheet h)) in
+        let code : getD s at 0 ≡ r .code = byte-stands s (operandBytes (r .operands) vs ++ q) at (r .code) e in
+        let whole : ltb (length s) (next r at) ≡ false = le-ltb (length s) (next r at) (omega (arith, length-sheet h)) in
+        let tone : addressed s at ≡ addressed (written r vs ++ q) 0 = sym (getD-drop at s 1 0) ∙ ap (λ (t : List ℕ). getD t 1 0) e in
+        rw (there, code, found, whole, tone, operands-done s q (at + 1) (r .does (headerOf l)) good operands-stand)
+
+  -- what comes of the rest, after the command, comes of the whole
+  pub reads-written : {stage′ : ℕ} {l′ : Line} {out : Meaning}
+      → ((s : List ℕ) (at : ℕ) → at ≤ length s → drop at s ≡ written r vs ++ q → afterCommand (r .does (headerOf l) vs) (next r at) s at stage l ≡ go (next r at) stage′ l′)
+      → Reads q stage′ l′ out → Reads (written r vs ++ q) stage l out
+  unfolding readFrom
+  reads-written goes reads s at zero h e m = absurd (omega arith)
+  reads-written goes reads s at (suc most) h e m =
+      rw (command-stands s at e h, goes s at h e)
+      (reads s (next r at) most (omega (arith, length-sheet s at e h)) (next-stands s at e) (omega (arith, length-written)))
+
+-- the end command, at the end
+pub reads-end : (l : Line) → Reads (written end []) 3 l (accepted l)
+unfolding readFrom
+reads-end l s at zero h e m = absurd (omega arith)
+reads-end l s at (suc most) h e m =
+    let last : ltb (next end at) (length s) ≡ false = le-ltb (next end at) (length s) (omega (arith, stands-length s (written end []) at h e)) in
+    rw (command-stands l 3 end [] [] refl nothing s at e h, last)

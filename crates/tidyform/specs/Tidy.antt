@@ -1,0 +1,50 @@
+-- The tidy form of a line. Document 01, 'The line sheet'.
+-- Assumes nothing.
+use mathlib.Core.Bool.{cond}
+use mathlib.Core.List.{List, [], _∷_, _++_}
+use Prim.Native.Nat.{ℕ, zero, suc}
+use lib.Dec.{eqb}
+use lib.ListN.{getD}
+use Rattle.sizes.specs.Sizes.{wordsOf}
+use Rattle.bigendian.specs.Number.{bytes}
+use Rattle.line.specs.declared.Numbers.{Numbers}
+use Rattle.line.specs.Tone.{carried, isSingle}
+use Rattle.line.specs.Line.{Entry, undescribed, described, Line}
+use Rattle.command.specs.Rows.{Row, Operand, gap, budget, end}
+use Rattle.command.specs.Codes.{sizeRow, toneRow, silenceRow}
+
+-- A command as bytes: its own, then its operands' values, each in its width.
+abbrev pub operandBytes : List Operand → (values : List ℕ) → List ℕ
+operandBytes [] values = []
+operandBytes (o ∷ os) [] = []
+operandBytes (o ∷ os) (v ∷ vs) = bytes (o .width) v ++ operandBytes os vs
+
+abbrev pub written : Row → (values : List ℕ) → List ℕ
+written r values = r .code ∷ operandBytes (r .operands) values
+
+abbrev pub numbersOf : (i : ℕ) → Numbers → List ℕ
+numbersOf i n = i ∷ n .noise ∷ n .gain ∷ n .cap ∷ n .mask ∷ []
+
+-- 'the described tones in rising number'; a silenced tone stays described
+abbrev pub entryBytes : (i : ℕ) → Entry → List ℕ
+entryBytes i undescribed = []
+entryBytes i (described t) = written (toneRow (isSingle (t .kind))) (numbersOf i (carried t))
+
+unfoldable pub toneBytes : (count : ℕ) → List Entry → List ℕ
+toneBytes zero entries = []
+toneBytes (suc n) entries = toneBytes n entries ++ entryBytes n (getD entries n undescribed)
+
+-- 'for each word in rising order one 06 if its joined map is not zero'
+abbrev pub wordBytes : (word map : ℕ) → List ℕ
+wordBytes word map = cond (eqb map 0) [] (written silenceRow (word ∷ map ∷ []))
+
+unfoldable pub mapBytes : (count : ℕ) → (maps : List ℕ) → List ℕ
+mapBytes zero maps = []
+mapBytes (suc n) maps = mapBytes n maps ++ wordBytes n (getD maps n 0)
+
+-- 'The tidy form has 01, 02, 03, the described tones in rising number, then for each word .., then 07.'
+unfoldable pub tidy : Line → List ℕ
+unfolding toneBytes mapBytes
+tidy l =
+    written sizeRow (l .size ∷ []) ++ written gap (l .gap ∷ []) ++ written budget (l .budget ∷ []) ++ toneBytes (l .size) (l .entries)
+    ++ mapBytes (wordsOf (l .size)) (l .maps) ++ written end []
