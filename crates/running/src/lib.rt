@@ -35,6 +35,8 @@ pub struct Ended {
     pub progress: Progress,
 }
 
+// The moves change a copy of the bits and put it back whole: so the compiler keeps the power out of memory, and a step copies the bits
+// twice, in and out, whatever its move.
 impl Running {
     // Takes a free step: one bit more on its tone, and its size more in all. The tone's kept ranks follow.
     fn take(
@@ -50,16 +52,18 @@ impl Running {
         ensures { λ r. ⌜ r ≡ taken self f ⌝ }
         ensures { λ r. ⌜ RanksFollow (arraysBefore limits costs doublings) f self r (before free) (before held) (after free) (after held) ⌝ }
     {
+        let mut bits = self.bits;
         let tone = f.tone;
-        let bits = self.bits[tone] + 1;
-        self.bits[tone] = bits;
+        let more = bits[tone] + 1;
+        bits[tone] = more;
+        self.bits = bits;
         self.power += f.size;
         ranks::put_ranks(
             tone,
             limits[tone],
             costs[tone],
             doublings[tone],
-            bits,
+            more,
             free,
             held,
         );
@@ -80,16 +84,18 @@ impl Running {
         ensures { λ r. ⌜ r ≡ givenUp self h ⌝ }
         ensures { λ r. ⌜ RanksFollow (arraysBefore limits costs doublings) h self r (before free) (before held) (after free) (after held) ⌝ }
     {
+        let mut bits = self.bits;
         let tone = h.tone;
-        let bits = self.bits[tone] - 1;
-        self.bits[tone] = bits;
+        let fewer = bits[tone] - 1;
+        bits[tone] = fewer;
+        self.bits = bits;
         self.power -= h.size;
         ranks::put_ranks(
             tone,
             limits[tone],
             costs[tone],
             doublings[tone],
-            bits,
+            fewer,
             free,
             held,
         );
@@ -161,10 +167,13 @@ pub fn run(
     let mut free = [u64::MAX; TONES];
     let mut held = [u64::MAX; TONES];
     ranks::fill_ranks(count, limits, costs, doublings, &bits, &mut free, &mut held);
-    let mut running = start;
+    let mut now = Stepped {
+        running: start,
+        progress: Progress::Moved,
+    };
     let mut moves: u32 = 0;
     while moves < most {
-        let stepped = running.step(
+        now = now.running.step(
             rule,
             budget,
             count,
@@ -174,13 +183,13 @@ pub fn run(
             &mut free,
             &mut held,
         );
-        running = stepped.running;
-        let progress = stepped.progress;
+        let progress = now.progress;
         match progress {
             Progress::Moved => {
                 moves += 1;
             }
             Progress::Finished => {
+                let running = now.running;
                 return Ended {
                     running: running,
                     moves: moves,
@@ -189,6 +198,7 @@ pub fn run(
             }
         }
     }
+    let running = now.running;
     Ended {
         running: running,
         moves: moves,

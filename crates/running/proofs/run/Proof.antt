@@ -12,11 +12,11 @@ use Rattle.running.proofs.run.Statement.{statement}
 use Rattle.running.proofs.run.Tie as tie
 
 abbrev Inv-loop : tie.InvT-loop
-Inv-loop rule most budget count limits costs doublings free₀ held₀ running₀ moves₀ free held running moves =
-    Along count (arrays limits costs doublings) rule most budget running₀ running moves free held
+Inv-loop rule most budget count limits costs doublings free₀ held₀ now₀ moves₀ free held now moves =
+    Along count (arrays limits costs doublings) rule most budget (now₀ .running) (now .running) moves free held
 
 abbrev μ-loop : tie.MeasureT-loop
-μ-loop rule most budget count limits costs doublings free₀ held₀ running₀ moves₀ free held running moves =
+μ-loop rule most budget count limits costs doublings free₀ held₀ now₀ moves₀ free held now moves =
     most - moves
 
 fill-ranks-requires : tie.Need-fill-ranks-requires Inv-loop μ-loop
@@ -35,25 +35,25 @@ step-requires c κs = let G = c .before .before .before .loop .inv in (G .runnab
 
 add-moves : tie.Need-add-moves Inv-loop μ-loop
 add-moves c =
-    let most = c .before .before .before .before .before .before .before .before .before .before .before .before .before .fits .most in
-    record { fits = omega (arith, c .before .before .before .before .before .before .loop-test .taken, most) }
+    let most = c .before .before .before .before .before .before .before .before .before .before .before .before .fits .most in
+    record { fits = omega (arith, c .before .before .before .before .before .loop-test .taken, most) }
 
 loop-again : tie.Need-loop-again Inv-loop μ-loop
 loop-again c =
-    let ran = c .before .before .before .step in
+    let ran = c .before .before .step in
     let last = ran .last .1 .1 .1 .1 .1 .1 .1 in
-    let G = c .before .before .before .before .before .before .before .loop .inv in
-    let test = c .before .before .before .before .before .before .loop-test .taken in
+    let G = c .before .before .before .before .before .before .loop .inv in
+    let test = c .before .before .before .before .before .loop-test .taken in
     along-moved G (ran .ensures .0) test (c .enum-told .given .1) {newFree = last .0} {newHeld = last .1 .0} (ran .ensures .1)
 
 returns : tie.Need-returns Inv-loop μ-loop
 returns c =
     let did = c .before .before .before .step .ensures in
     let G = c .before .before .before .before .before .before .before .loop .inv in
-    along-finished G (did .0) (c .before .before .before .before .before .before .loop-test .taken) (c .enum-told2 .given .1)
+    along-finished G (did .0) (c .before .before .before .before .before .before .loop-test .taken) (c .before .enum-told2 .given .1)
 
 returns-2 : tie.Need-returns-2 Inv-loop μ-loop
-returns-2 c = along-full (c .before .loop .inv) (c .loop-test .left)
+returns-2 c = along-full (c .before .before .loop .inv) (c .before .loop-test .left)
 
 pub run-spec : {M : Type 1} → statement M
 run-spec =

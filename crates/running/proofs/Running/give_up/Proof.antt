@@ -10,7 +10,7 @@ use Rattle.running.proofs.Running.give_up.Tie as tie
 
 -- where the function begins
 abbrev entry : tie.After-put-ranks-arg5 → tie.Start
-entry c = c .before .before .before .before .before .before .before
+entry c = c .before .before .before .before .before .before .before .before
 
 put-ranks-requires : tie.Need-put-ranks-requires
 put-ranks-requires c κs =
@@ -22,7 +22,7 @@ returns : tie.Need-returns
 returns c =
     let s = entry (c .before) in
     let P = s .pre in
-    let n : length (s .args .t1 .bits) ≡ mostTones = search needs in
+    let n : length (s .args .self .bits) ≡ mostTones = search needs in
     let stored = c .put-ranks .ensures in
     (refl, followed (omega (arith, P .tone, P .in-range .count-high)) n (stored .1 .1) _ _ (stored .0) (stored .1 .0))
 

@@ -9,12 +9,12 @@ use Rattle.running.proofs.Changes.{limit-small, followed}
 use Rattle.running.proofs.Running.take.Statement.{statement}
 use Rattle.running.proofs.Running.take.Tie as tie
 
-add-bits : tie.Need-add-bits
-add-bits c = let P = c .before .pre in record { fits = omega (arith, limit-small (P .in-range) _ (P .tone), P .free) }
+add-more : tie.Need-add-more
+add-more c = let P = c .before .pre in record { fits = omega (arith, limit-small (P .in-range) _ (P .tone), P .free) }
 
 -- where the function begins
 abbrev entry : tie.After-put-ranks-arg5 → tie.Start
-entry c = c .before .before .before .before .before .before .before
+entry c = c .before .before .before .before .before .before .before .before
 
 put-ranks-requires : tie.Need-put-ranks-requires
 put-ranks-requires c κs =
@@ -26,7 +26,7 @@ returns : tie.Need-returns
 returns c =
     let s = entry (c .before) in
     let P = s .pre in
-    let n : length (s .args .t1 .bits) ≡ mostTones = search needs in
+    let n : length (s .args .self .bits) ≡ mostTones = search needs in
     let stored = c .put-ranks .ensures in
     (rw add-one refl, followed (omega (arith, P .tone, P .in-range .count-high)) n (stored .1 .1) _ _ (stored .0) (stored .1 .0))
 
@@ -35,7 +35,7 @@ take-spec =
     tie.close
     (tie.spec
     (λ c. search needs)
-    add-bits
+    add-more
     (λ c. search needs)
     (λ c. search needs)
     (λ c. search needs)
