@@ -11,9 +11,9 @@ use Rattle.lists.proofs.Stores.{from-start}
 use Rattle.bigendian.specs.Number.{bytes, withNumber}
 use Rattle.bigendian.proofs.Numbers.{length-bytes, number-fits}
 use Rattle.bigendian.proofs.Stores.{sets-append}
-use Rattle.command.specs.declared.Refusal.{Refusal}
-use Rattle.command.specs.declared.Refusal.the-variants.{SheetTooLong, SheetEnds, CommandNotAllowed, OperandOutOfRange, ToneBeyondLine, ToneRepeated, BytesAfterEnd, DestinationTooSmall, StartLengthWrong, StartAboveLimit, TargetNotCarried}
-use Rattle.command.specs.Refusals.{Outcome, refusal}
+use Rattle.refusals.specs.declared.Refusal.{Refusal}
+use Rattle.refusals.specs.declared.Refusal.the-variants.{SheetTooLong, SheetEnds, CommandNotAllowed, OperandOutOfRange, ToneBeyondLine, ToneRepeated, BytesAfterEnd, DestinationTooSmall, StartLengthWrong, StartAboveLimit, TargetNotCarried}
+use Rattle.refusals.specs.Refusals.{Outcome, refusal}
 use Rattle.sheet.specs.declared.Checked.{Checked}
 use Rattle.sheet.specs.declared.Checked.the-variants as checked
 use Rattle.sheet.specs.Reading.{Meaning, accepted, refused, reading}

@@ -8,8 +8,8 @@ use Prim.Native.Nat.{ℕ, _+_, _*_, _^_, _≤_}
 use lib.Dec.{eqb}
 use lib.ListN.{length, take, drop}
 use Rattle.bigendian.specs.Number.{bytes}
-use Rattle.command.specs.declared.Refusal.the-variants.{DestinationTooSmall}
-use Rattle.command.specs.Refusals.{Outcome, refusal}
+use Rattle.refusals.specs.declared.Refusal.the-variants.{DestinationTooSmall}
+use Rattle.refusals.specs.Refusals.{Outcome, refusal}
 use Rattle.sheet.specs.Reading.{Meaning, accepted, refused}
 use Rattle.answers.specs.declared.Reply.{Reply}
 

@@ -4,16 +4,16 @@ ghost use Prim.Native.Nat.{ℕ, _≤_};
 ghost use lib.ListN.{length};
 ghost use Rattle.sizes.specs.Sizes.{answerRoom};
 ghost use Rattle.lists.specs.Lent.{before, after};
-ghost use Rattle.command.specs.Refusals.{refusal};
+ghost use Rattle.refusals.specs.Refusals.{refusal};
 ghost use Rattle.sheet.specs.Reading.{reading};
 ghost use Rattle.sheet.specs.Check.{checkNumbers};
 ghost use Rattle.loadings.specs.Loads.{loadNumbers};
 ghost use Rattle.loadings.specs.Refits.{refitNumbers};
 ghost use Rattle.tidy.specs.Tidying.{tidyNumbers};
 ghost use Rattle.answers.specs.Answers.{code, answersIn, written, withoutRoom, Says};
-use command::Refusal;
 use loadings::Loaded;
 use loadings::Refitted;
+use refusals::Refusal;
 use sheet::Checked;
 use tidy::Tidied;
 
@@ -30,7 +30,7 @@ pub struct Reply {
 fn refused(why: Refusal) -> u64
     ensures { λ r. ⌜ r ≡ code (refusal 0 why) ⌝ }
 {
-    command::refusal_number(why) as u64 * 0x1_0000_0000 + command::refusal_place(why) as u64
+    refusals::refusal_number(why) as u64 * 0x1_0000_0000 + refusals::refusal_place(why) as u64
 }
 
 // A refusal writes no answers, however many the call has.

@@ -5,7 +5,7 @@ ghost use Rattle.lists.specs.Lent.{before};
 ghost use Rattle.line.specs.Tone.{Gap};
 ghost use Rattle.line.specs.Line.{EntryInRange, entrySteps};
 ghost use Rattle.line.specs.Arrays.{arraysBefore, arraysAfter};
-ghost use Rattle.command.specs.Places.{entryAt};
+ghost use Rattle.places.specs.Places.{entryAt};
 ghost use Rattle.sheet.specs.Reading.{reading};
 ghost use Rattle.sheet.specs.Index.{Indexed};
 ghost use Rattle.arrays.specs.Tones.{HoldsLineOf, TonesOf};
@@ -32,7 +32,7 @@ fn steps_at(s: &[u8], gap: u16, place: u16, silenced: bool) -> Steps
     if place < 1 {
         return none;
     }
-    let tone = command::tone_at(s, place);
+    let tone = places::tone_at(s, place);
     line::steps_of(gap, tone)
 }
 

@@ -2,10 +2,10 @@
 ghost use Prim.Native.Nat.{_*_, _≤_};
 ghost use lib.ListN.{length};
 ghost use Rattle.sizes.specs.Sizes.{mostTones, bytesATone};
-use command::Refusal;
-use command::refusal_number;
-use command::refusal_place;
 use loadings::Loaded;
+use refusals::Refusal;
+use refusals::refusal_number;
+use refusals::refusal_place;
 use sheet::Checked;
 use sizes::TONE_BYTES;
 use sizes::TONES;

@@ -9,7 +9,7 @@ use native.Mathlib.Omega.{arith}
 use borrow.Author.Tests.{le-ltb}
 use lib.Dec.{eqb}
 use Rattle.bigendian.specs.Number.{number}
-use Rattle.command.specs.declared.Refusal.{Refusal}
+use Rattle.refusals.specs.declared.Refusal.{Refusal}
 use Rattle.command.specs.declared.Header.{Header}
 use Rattle.command.specs.declared.Command.{Command}
 use Rattle.command.specs.Rows.{Seen, Operand, Row, within, silence, rowsOf, width, withCode, judged, operandsFrom, rowAt}

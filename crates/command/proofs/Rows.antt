@@ -24,12 +24,12 @@ use Rattle.bigendian.specs.Number.{number}
 use Rattle.silence.specs.Map.{namesBeyond}
 use Rattle.line.specs.Tone.{mostCap}
 use Rattle.line.specs.Line.{Entry, isDescribed}
-use Rattle.command.specs.declared.Refusal.{Refusal}
-use Rattle.command.specs.declared.Refusal.the-variants.{SheetTooLong, SheetEnds, CommandNotAllowed, OperandOutOfRange, ToneBeyondLine, ToneRepeated}
+use Rattle.refusals.specs.declared.Refusal.{Refusal}
+use Rattle.refusals.specs.declared.Refusal.the-variants.{SheetTooLong, SheetEnds, CommandNotAllowed, OperandOutOfRange, ToneBeyondLine, ToneRepeated}
 use Rattle.command.specs.declared.Header.{Header}
 use Rattle.command.specs.declared.Command.{Command}
 use Rattle.command.specs.declared.Command.the-variants.{Describe, Silence, Refused}
-use Rattle.command.specs.Places.{entryAt}
+use Rattle.places.specs.Places.{entryAt}
 use Rattle.command.specs.Rows.{within, Row, tone, pair, single, end, withCode, width, bytesOf, judged, rowAt}
 use Rattle.command.specs.Format.{today, decoded, commandAt}
 use Rattle.command.specs.Codes.{silenceRow, toneRow, allRows, orEnd, rowOf}

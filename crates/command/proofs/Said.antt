@@ -21,7 +21,8 @@ use Rattle.command.specs.declared.Command.{Command}
 use Rattle.command.specs.declared.Command.the-variants.{End, Refused, Head, Describe, Silence}
 use Rattle.command.specs.declared.Decoded.{Decoded}
 use Rattle.command.specs.Rows.{Row, tone, width}
-use Rattle.command.specs.Format.{today, isTooLong, addressed, commandAt}
+use Rattle.places.specs.Places.{addressed}
+use Rattle.command.specs.Format.{today, isTooLong, commandAt}
 use Rattle.command.specs.Codes.{silenceRow}
 use Rattle.command.proofs.Walk.{Each, number-one, passes, in-within, Does, by-rows}
 

@@ -14,7 +14,7 @@ use lib.ListN.{length, getD}
 use Rattle.lists.proofs.Tests.{by-test}
 use Rattle.bigendian.specs.Number.{number}
 use Rattle.line.specs.Line.{Entry}
-use Rattle.command.specs.declared.Refusal.{Refusal}
+use Rattle.refusals.specs.declared.Refusal.{Refusal}
 use Rattle.command.specs.declared.Header.{Header}
 use Rattle.command.specs.declared.Command.{Command}
 use Rattle.command.specs.declared.Command.the-variants.{Refused}

@@ -9,7 +9,7 @@ use lib.Dec.{leb, ltb}
 use lib.ListN.{length, getD}
 use Rattle.sizes.specs.Sizes.{mostTones, mostWords, longestSheet}
 use Rattle.line.specs.Line.{Entry}
-use Rattle.command.specs.declared.Refusal.the-variants.{SheetTooLong, SheetEnds, CommandNotAllowed}
+use Rattle.refusals.specs.declared.Refusal.the-variants.{SheetTooLong, SheetEnds, CommandNotAllowed}
 use Rattle.command.specs.declared.Header.{Header}
 use Rattle.command.specs.declared.Command.{Command}
 use Rattle.command.specs.declared.Command.the-variants.{End, Refused, Head, Describe, Silence}
@@ -34,10 +34,6 @@ today = formatOf mostTones mostWords longestSheet
 -- refusal 1: 'The sheet has more than 4,096 bytes'
 abbrev pub isTooLong : Format → List ℕ → Bool
 isTooLong F s = ltb (F .bytes) (length s)
-
--- The tone that the command at a place addresses, if it addresses one: the byte after the command's own.
-abbrev pub addressed : List ℕ → (at : ℕ) → ℕ
-addressed s at = getD s (at + 1) 0
 
 -- The command at a place of a sheet: refusal 2 where the sheet ends there, 3 where its byte is not allowed, 2 where the rest of its
 -- operands is missing; else as its row has it. With it comes the place after the command.

@@ -1,5 +1,3 @@
-pub mod Refusals
-pub mod Places
 pub mod Rows
 pub mod Format
 pub mod Codes

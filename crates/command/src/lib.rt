@@ -1,81 +1,25 @@
-// The commands of a line sheet, decoded one by one, and the refusals: document 01, 'The line sheet' and 'Why a sheet is turned down'.
+// The commands of a line sheet, decoded one by one: document 01, 'The line sheet' and 'Why a sheet is turned down'.
 ghost use mathlib.Core.Path.{_≡_};
-ghost use Prim.Native.Nat.{_+_, _≤_, _<_};
-ghost use lib.ListN.{length, getD};
-ghost use Rattle.sizes.specs.Sizes.{mostTones, longestSheet};
+ghost use Prim.Native.Nat.{_+_, _≤_};
+ghost use lib.ListN.{length};
+ghost use Rattle.sizes.specs.Sizes.{longestSheet};
 ghost use Rattle.lists.specs.Lent.{before};
-ghost use Rattle.line.specs.Tone.{mostCap, kindOf};
+ghost use Rattle.line.specs.Tone.{mostCap};
 ghost use Rattle.line.specs.Line.{Entry};
-ghost use Rattle.command.specs.declared.Refusal.the-variants.{OperandOutOfRange};
+ghost use Rattle.refusals.specs.declared.Refusal.the-variants.{OperandOutOfRange};
+ghost use Rattle.places.specs.Places.{entryAt};
 ghost use Rattle.command.specs.declared.Command.the-variants.{Refused};
-ghost use Rattle.command.specs.Refusals.{refusalNumber, refusalPlace};
-ghost use Rattle.command.specs.Places.{toneAt, entryAt};
 ghost use Rattle.command.specs.Rows.{rowAt, width, bytesOf, withCode};
-ghost use Rattle.command.specs.Format.{today, addressed, commandAt};
+ghost use Rattle.command.specs.Format.{today, commandAt};
 ghost use Rattle.command.specs.Codes.{rowOf, toneRow, silenceRow};
 use line::GAP_UNIT;
-use line::Kind;
-use line::Numbers;
-use line::Tone;
+use refusals::Refusal;
 use sizes::MOST_POWER;
 use sizes::PAIR_CAP;
 use sizes::SHEET_BYTES;
 use sizes::SINGLE_CAP;
 use sizes::TONES;
 use sizes::WORDS;
-
-// Why a sheet, or a call, is turned down: document 01's list, in its order, each case with its place where that is not 0.
-pub enum Refusal {
-    SheetTooLong,
-    SheetEnds(u16),
-    CommandNotAllowed(u16),
-    OperandOutOfRange(u16),
-    ToneBeyondLine(u16),
-    ToneRepeated(u16),
-    BytesAfterEnd(u16),
-    DestinationTooSmall,
-    StartLengthWrong,
-    StartAboveLimit(u16),
-    TargetNotCarried,
-}
-
-// The number of a refusal in document 01's list.
-pub fn refusal_number(refusal: Refusal) -> u32
-    ensures { λ r. ⌜ r ≡ refusalNumber refusal ⌝ }
-{
-    match refusal {
-        Refusal::SheetTooLong => 1,
-        Refusal::SheetEnds(_) => 2,
-        Refusal::CommandNotAllowed(_) => 3,
-        Refusal::OperandOutOfRange(_) => 4,
-        Refusal::ToneBeyondLine(_) => 5,
-        Refusal::ToneRepeated(_) => 6,
-        Refusal::BytesAfterEnd(_) => 7,
-        Refusal::DestinationTooSmall => 8,
-        Refusal::StartLengthWrong => 9,
-        Refusal::StartAboveLimit(_) => 10,
-        Refusal::TargetNotCarried => 11,
-    }
-}
-
-// The place of a refusal.
-pub fn refusal_place(refusal: Refusal) -> u32
-    ensures { λ r. ⌜ r ≡ refusalPlace refusal ⌝ }
-{
-    match refusal {
-        Refusal::SheetTooLong => 0,
-        Refusal::SheetEnds(place) => place as u32,
-        Refusal::CommandNotAllowed(place) => place as u32,
-        Refusal::OperandOutOfRange(place) => place as u32,
-        Refusal::ToneBeyondLine(place) => place as u32,
-        Refusal::ToneRepeated(place) => place as u32,
-        Refusal::BytesAfterEnd(place) => place as u32,
-        Refusal::DestinationTooSmall => 0,
-        Refusal::StartLengthWrong => 0,
-        Refusal::StartAboveLimit(place) => place as u32,
-        Refusal::TargetNotCarried => 0,
-    }
-}
 
 // What the first three commands give: N, the gap and the budget; 0 for what is not given yet.
 pub struct Header {
@@ -278,53 +222,4 @@ pub fn decode(s: &[u8], at: usize, stage: u8, header: Header, place: u16) -> Dec
         command: operands(s, at, code, header, place),
         next: at + bytes,
     }
-}
-
-// The byte at a place, or 0 past the end.
-fn byte_at(s: &[u8], at: usize) -> u8
-    ensures { λ r. ⌜ r ≡ getD (before s) at 0 ⌝ }
-{
-    if at < s.len() {
-        return s[at];
-    }
-    0
-}
-
-// The tone that the command at a place addresses, if it addresses one.
-pub fn addressed(s: &[u8], at: usize) -> usize
-    ensures meaning { λ r. ⌜ r ≡ addressed (before s) at ⌝ }
-    ensures range { λ r. ⌜ r < mostTones ⌝ }
-{
-    if s.len() <= at {
-        return 0;
-    }
-    byte_at(s, at + 1) as usize
-}
-
-// A tone of either kind.
-fn tone_of(is_single: bool, numbers: Numbers) -> Tone
-    ensures { λ r. ⌜ r ≡ record { kind = kindOf «is_single» numbers } ⌝ }
-{
-    if is_single {
-        return Tone {
-            kind: Kind::Single(numbers),
-        };
-    }
-    Tone {
-        kind: Kind::Pair(numbers),
-    }
-}
-
-// The tone whose command stands at a place. What is not there reads as 0.
-pub fn tone_at(s: &[u8], place: u16) -> Tone
-    ensures { λ r. ⌜ r ≡ toneAt (before s) place ⌝ }
-{
-    let at = place as usize;
-    let numbers = Numbers {
-        noise: bigendian::number_at(s, at + 2, 2) as u16,
-        gain: bigendian::number_at(s, at + 4, 2) as u16,
-        cap: byte_at(s, at + 6),
-        mask: bigendian::number_at(s, at + 7, 8),
-    };
-    tone_of(byte_at(s, at) == 5, numbers)
 }

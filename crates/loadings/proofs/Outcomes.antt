@@ -15,8 +15,8 @@ use Rattle.steps.specs.Tones.{Tones, Table, sum, noBits, totalBits}
 use Rattle.steps.specs.Runs.{Ran, addStep, refitStep, run, mostBits, carrying}
 use Rattle.line.specs.Arrays.{Arrays}
 use Rattle.line.proofs.Arrays.{stands-bits}
-use Rattle.command.specs.declared.Refusal.{Refusal}
-use Rattle.command.specs.declared.Refusal.the-variants.{DestinationTooSmall, StartLengthWrong, StartAboveLimit, TargetNotCarried}
+use Rattle.refusals.specs.declared.Refusal.{Refusal}
+use Rattle.refusals.specs.declared.Refusal.the-variants.{DestinationTooSmall, StartLengthWrong, StartAboveLimit, TargetNotCarried}
 use Rattle.running.specs.declared.Running.{Running}
 use Rattle.running.specs.Running.{Stands}
 use Rattle.starts.specs.Starts.{firstAbove}

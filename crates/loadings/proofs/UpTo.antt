@@ -12,7 +12,7 @@ use Rattle.sizes.specs.Sizes.{mostBitsOfAll}
 use Rattle.steps.specs.Tones.{Tones, Rising, noBits, sumOfLimits, KeepsLimits, KeepsBudget}
 use Rattle.steps.specs.Runs.{Ran, refitStep}
 use Rattle.steps.proofs.Enough.{refit-enough}
-use Rattle.command.specs.declared.Refusal.the-variants.{StartLengthWrong}
+use Rattle.refusals.specs.declared.Refusal.the-variants.{StartLengthWrong}
 use Rattle.starts.specs.Starts.{firstAbove}
 use Rattle.starts.proofs.First.{none-keeps}
 use Rattle.loadings.specs.Loads.{Loading, loaded, turned-down, ifRoom}

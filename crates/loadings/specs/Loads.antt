@@ -11,9 +11,9 @@ use Rattle.sizes.specs.Sizes.{bytesATone}
 use Rattle.steps.specs.Tones.{Tones, Rising, Table, totalBits, totalPower}
 use Rattle.steps.specs.Runs.{Ran, mostBits, setBits}
 use Rattle.line.specs.Arrays.{Arrays, ArraysInRange, Describes}
-use Rattle.command.specs.declared.Refusal.{Refusal}
-use Rattle.command.specs.declared.Refusal.the-variants.{DestinationTooSmall, TargetNotCarried}
-use Rattle.command.specs.Refusals.{Outcome, success, refusal}
+use Rattle.refusals.specs.declared.Refusal.{Refusal}
+use Rattle.refusals.specs.declared.Refusal.the-variants.{DestinationTooSmall, TargetNotCarried}
+use Rattle.refusals.specs.Refusals.{Outcome, success, refusal}
 use Rattle.tables.specs.Tables.{tableBytes}
 use Rattle.loadings.specs.declared.Loaded.{Loaded}
 use Rattle.loadings.specs.declared.Loaded.the-variants.{Totals, Refused}

@@ -11,8 +11,8 @@ use lib.ListN.{length}
 use Rattle.steps.specs.Tones.{Tones, Table, totalBits, totalPower}
 use Rattle.steps.specs.Runs.{Answer, moved, finished, refitStep, Ran, run, refitRun}
 use Rattle.line.specs.Arrays.{Arrays}
-use Rattle.command.specs.declared.Refusal.the-variants.{StartLengthWrong, StartAboveLimit}
-use Rattle.command.specs.Refusals.{Outcome, success, refusal}
+use Rattle.refusals.specs.declared.Refusal.the-variants.{StartLengthWrong, StartAboveLimit}
+use Rattle.refusals.specs.Refusals.{Outcome, success, refusal}
 use Rattle.starts.specs.Starts.{firstAbove}
 use Rattle.loadings.specs.declared.Refitted.{Refitted}
 use Rattle.loadings.specs.declared.Refitted.the-variants.{Totals, Refused}

@@ -1,4 +1,4 @@
 pub mod Sizes
 pub mod Order
 pub mod Kept
-pub mod Found
+pub mod Least

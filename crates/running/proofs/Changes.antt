@@ -47,7 +47,7 @@ pub followed : {A : Arrays} {s : Step} {r : Running} {free held newFree newHeld 
     → newHeld ≡ set held (s .tone) (heldRank (s .tone) (costAt A (s .tone)) (doublingsAt A (s .tone)) b)
     → RanksFollow A s r (record { bits = set (r .bits) (s .tone) b; power = p }) free held newFree newHeld
 followed {s = s} l n m b p f h = record {
-  follow = λ count q R. rw (f, h) (ranked-set R (s .tone) b q (omega arith) (omega arith) (omega arith));
+  still-ranked = λ count q R. rw (f, h) (ranked-set R (s .tone) b q (omega arith) (omega arith) (omega arith));
 }
 
 -- ---- the table that a running table stands for

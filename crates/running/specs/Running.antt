@@ -49,7 +49,7 @@ pub record CanGiveUp (A : Arrays) (r : Running) (h : Step) : Type 0 where
 
 -- The kept ranks follow a move of this step: if they were those of the bits before it, they are those of the bits after it.
 pub record RanksFollow (A : Arrays) (s : Step) (old new : Running) (free held newFree newHeld : List ℕ) : Type 0 where
-  pub follow : (count : ℕ) → s .tone < count → Ranked count A (old .bits) free held → Ranked count A (new .bits) newFree newHeld
+  pub still-ranked : (count : ℕ) → s .tone < count → Ranked count A (old .bits) free held → Ranked count A (new .bits) newFree newHeld
 
 module _ (count : ℕ) (A : Arrays) where
   -- The running table stands for table t of tones T, and carries its total power.

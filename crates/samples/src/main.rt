@@ -12,14 +12,14 @@ mod loads;
 mod printing;
 
 ghost use Rattle.io.specs.Counts.{Counts};
-use command::refusal_number;
-use command::refusal_place;
 use loads::Call;
 use printing::print;
 use printing::print_bytes;
 use printing::print_number;
 use printing::print_pair;
 use printing::print_touched;
+use refusals::refusal_number;
+use refusals::refusal_place;
 use sampletext::ROOM;
 use sampletext::filled;
 use sampletext::read_bytes;

@@ -11,13 +11,14 @@ use lib.Dec.{ltb, leb}
 use lib.ListN.{length, getD}
 use Rattle.lists.proofs.Tests.{by-test}
 use Rattle.line.specs.Line.{Line, Entry, entryOf}
-use Rattle.command.specs.declared.Refusal.{Refusal}
+use Rattle.refusals.specs.declared.Refusal.{Refusal}
 use Rattle.command.specs.declared.Header.{Header}
 use Rattle.command.specs.declared.Command.{Command}
 use Rattle.command.specs.declared.Command.the-variants.{End, Refused, Head, Describe, Silence}
 use Rattle.command.specs.declared.Decoded.{Decoded}
 use Rattle.command.specs.Rows.{Row, width, withCode}
-use Rattle.command.specs.Format.{Format, isTooLong, addressed, decodedRow, decoded, isRefused, Covered, Within}
+use Rattle.places.specs.Places.{addressed}
+use Rattle.command.specs.Format.{Format, isTooLong, decodedRow, decoded, isRefused, Covered, Within}
 use Rattle.sheet.specs.Reading.{accepted, refused, headerOf, emptyLine, afterCommand, commandIn, readOn, readFrom, readingIn}
 
 -- a refusal is no line

@@ -17,7 +17,7 @@ use Rattle.silence.proofs.Maps.{beyond-zero}
 use Rattle.line.specs.Line.{undescribed, described, Line}
 use Rattle.command.specs.declared.Header.{Header}
 use Rattle.command.specs.declared.Command.the-variants.{Describe, Silence}
-use Rattle.command.specs.Places.{toneAt, entryAt}
+use Rattle.places.specs.Places.{toneAt, entryAt}
 use Rattle.sheet.specs.Reading.{bareLine, effect}
 use Rattle.sheet.specs.Index.{ToneStands, Indexes}
 

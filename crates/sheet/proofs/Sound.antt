@@ -26,10 +26,10 @@ use Rattle.silence.proofs.Maps.{beyond-clear, joined-bit, joined-lt}
 use Rattle.line.specs.declared.Numbers.{Numbers}
 use Rattle.line.specs.Tone.{kindOf, mostCap, InRange, Gap, gapUnit}
 use Rattle.line.specs.Line.{undescribed, EntryInRange, Line, LineInRange}
-use Rattle.command.specs.declared.Refusal.the-variants.{SheetTooLong}
+use Rattle.refusals.specs.declared.Refusal.the-variants.{SheetTooLong}
 use Rattle.command.specs.declared.Header.{Header}
 use Rattle.command.specs.declared.Command.the-variants.{Describe, Silence}
-use Rattle.command.specs.Places.{toneAt}
+use Rattle.places.specs.Places.{toneAt}
 use Rattle.command.specs.Rows.{tone, silence}
 use Rattle.command.specs.Format.{today}
 use Rattle.command.proofs.Walk.{Each, number-one, passes, in-within}

@@ -17,14 +17,14 @@ use Rattle.sizes.specs.Sizes.{mostTones, mostWords, wordsOf, longestSheet}
 use Rattle.lists.proofs.Stores.{all-same}
 use Rattle.silence.specs.Map.{joined}
 use Rattle.line.specs.Line.{undescribed, Line, entryOf}
-use Rattle.command.specs.declared.Refusal.{Refusal}
-use Rattle.command.specs.declared.Refusal.the-variants.{BytesAfterEnd}
+use Rattle.refusals.specs.declared.Refusal.{Refusal}
+use Rattle.refusals.specs.declared.Refusal.the-variants.{BytesAfterEnd}
 use Rattle.command.specs.declared.Header.{Header}
 use Rattle.command.specs.declared.Command.{Command}
 use Rattle.command.specs.declared.Command.the-variants.{End, Refused, Head, Describe, Silence}
 use Rattle.command.specs.declared.Decoded.{Decoded}
-use Rattle.command.specs.Places.{entryAt}
-use Rattle.command.specs.Format.{today, addressed, commandAt}
+use Rattle.places.specs.Places.{addressed, entryAt}
+use Rattle.command.specs.Format.{today, commandAt}
 use Rattle.command.proofs.Said.{There, Said, command-said}
 use Rattle.sheet.specs.declared.Read.{Read}
 use Rattle.sheet.specs.declared.Read.the-variants as read

@@ -10,9 +10,9 @@ use lib.ListN.{getD, replicate}
 use Rattle.sizes.specs.Sizes.{mostTones, mostWords, wordTones}
 use Rattle.silence.specs.Map.{bit, silenced}
 use Rattle.line.specs.Line.{Line, LineInRange, isDescribed, entryOf}
-use Rattle.command.specs.declared.Refusal.{Refusal}
+use Rattle.refusals.specs.declared.Refusal.{Refusal}
 use Rattle.command.specs.declared.Header.{Header}
-use Rattle.command.specs.Places.{entryAt}
+use Rattle.places.specs.Places.{entryAt}
 use Rattle.sheet.specs.declared.Read.{Read}
 use Rattle.sheet.specs.declared.Read.the-variants as read
 use Rattle.sheet.specs.Reading.{Meaning, accepted, refused, headerOf, reading}

@@ -13,7 +13,8 @@ use Rattle.line.specs.Line.{Line, entryOf}
 use Rattle.command.specs.declared.Command.{Command}
 use Rattle.command.specs.declared.Command.the-variants.{End, Refused, Head, Describe, Silence}
 use Rattle.command.specs.Rows.{Row, width}
-use Rattle.command.specs.Format.{Format, isTooLong, addressed}
+use Rattle.places.specs.Places.{addressed}
+use Rattle.command.specs.Format.{Format, isTooLong}
 use Rattle.command.proofs.Walk.{seenAt, Passed, values, Each, by-rows}
 use Rattle.sheet.specs.Reading.{Meaning, accepted, refused, headerOf, bareLine, emptyLine, effect, Next, stop, go, afterCommand, afterDecoded, commandIn, readOn, readFrom, readingIn}
 

@@ -3,7 +3,7 @@
 use mathlib.Core.List.{[], _∷_}
 use Rattle.silence.specs.Map.{silenced, count}
 use Rattle.line.specs.Line.{isDescribed, Line, entryOf}
-use Rattle.command.specs.Refusals.{Outcome, success, refusal}
+use Rattle.refusals.specs.Refusals.{Outcome, success, refusal}
 use Rattle.sheet.specs.declared.Checked.{Checked}
 use Rattle.sheet.specs.declared.Checked.the-variants as checked
 use Rattle.sheet.specs.Reading.{Meaning, accepted, refused}

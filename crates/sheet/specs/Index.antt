@@ -9,7 +9,7 @@ use lib.ListN.{length, getD, replicate}
 use Rattle.sizes.specs.Sizes.{mostTones, mostWords}
 use Rattle.line.specs.Line.{Line, entryOf}
 use Rattle.command.specs.declared.Header.{Header}
-use Rattle.command.specs.Places.{entryAt}
+use Rattle.places.specs.Places.{entryAt}
 use Rattle.sheet.specs.declared.Read.{Read}
 use Rattle.sheet.specs.declared.Read.the-variants as read
 use Rattle.sheet.specs.Reading.{Meaning, accepted, refused, headerOf, reading}

@@ -8,14 +8,14 @@ use lib.ListN.{length, set, replicate}
 use Rattle.sizes.specs.Sizes.{wordsOf}
 use Rattle.silence.specs.Map.{joined}
 use Rattle.line.specs.Line.{undescribed, described, Line, entryOf}
-use Rattle.command.specs.declared.Refusal.{Refusal}
-use Rattle.command.specs.declared.Refusal.the-variants.{SheetTooLong, SheetEnds, BytesAfterEnd}
+use Rattle.refusals.specs.declared.Refusal.{Refusal}
+use Rattle.refusals.specs.declared.Refusal.the-variants.{SheetTooLong, SheetEnds, BytesAfterEnd}
 use Rattle.command.specs.declared.Header.{Header}
 use Rattle.command.specs.declared.Command.{Command}
 use Rattle.command.specs.declared.Command.the-variants.{End, Refused, Head, Describe, Silence}
 use Rattle.command.specs.declared.Decoded.{Decoded}
-use Rattle.command.specs.Places.{toneAt}
-use Rattle.command.specs.Format.{Format, today, isTooLong, addressed, decoded}
+use Rattle.places.specs.Places.{addressed, toneAt}
+use Rattle.command.specs.Format.{Format, today, isTooLong, decoded}
 
 -- A sheet means a line, or meets a refusal.
 pub data Meaning : Type 0 where

@@ -13,7 +13,7 @@ ghost use Rattle.sheet.specs.Index.{Indexes, ReadsAs, answerOf};
 ghost use Rattle.sheet.specs.Reading.{accepted, reading};
 use command::Command;
 use command::Header;
-use command::Refusal;
+use refusals::Refusal;
 use sizes::TONES;
 use sizes::WORDS;
 
@@ -39,7 +39,7 @@ fn read_commands(s: &[u8], places: &mut [u16; TONES], maps: &mut [u32; WORDS]) -
     let mut stage: u8 = 0;
     let mut at: usize = 0;
     loop {
-        let tone = command::addressed(s, at);
+        let tone = places::addressed(s, at);
         let decoded = command::decode(s, at, stage, header, places[tone]);
         let command = decoded.command;
         let next = decoded.next;

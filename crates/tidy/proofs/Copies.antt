@@ -18,7 +18,7 @@ use Rattle.line.specs.declared.Numbers.{Numbers}
 use Rattle.line.specs.Tone.{carriedBy, kindOf, isSingle}
 use Rattle.line.specs.Line.{described, Line}
 use Rattle.command.specs.Codes.{toneRow}
-use Rattle.command.specs.Places.{toneAt, entryAt}
+use Rattle.places.specs.Places.{toneAt, entryAt}
 use Rattle.command.proofs.Walk.{number-one}
 use Rattle.sheet.specs.Index.{ToneStands, Indexes}
 use Rattle.sheet.proofs.Sound.{Bytes, Sound}

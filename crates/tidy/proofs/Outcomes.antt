@@ -11,11 +11,11 @@ use lib.ListN.{length}
 use lib.Seq.{sets}
 use Rattle.lists.proofs.Stores.{from-start}
 use Rattle.line.specs.Line.{Line}
-use Rattle.command.specs.declared.Refusal.{Refusal}
-use Rattle.command.specs.declared.Refusal.the-variants.{DestinationTooSmall}
+use Rattle.refusals.specs.declared.Refusal.{Refusal}
+use Rattle.refusals.specs.declared.Refusal.the-variants.{DestinationTooSmall}
 use Rattle.sheet.specs.Reading.{Meaning, accepted, refused}
 use Rattle.tidyform.specs.Tidy.{tidy}
-use Rattle.command.specs.Refusals.{refusal, success}
+use Rattle.refusals.specs.Refusals.{refusal, success}
 use Rattle.tidy.specs.declared.Tidied.{Tidied}
 use Rattle.tidy.specs.declared.Tidied.the-variants.{Length, Refused}
 use Rattle.tidy.specs.Tidying.{tidying, tidyNumbers, tidyOutcome, afterTidying}

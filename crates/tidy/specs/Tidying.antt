@@ -6,8 +6,8 @@ use mathlib.Core.List.{List, [], _∷_, _++_}
 use Prim.Native.Nat.{ℕ}
 use lib.Dec.{ltb}
 use lib.ListN.{length, drop}
-use Rattle.command.specs.declared.Refusal.the-variants.{DestinationTooSmall}
-use Rattle.command.specs.Refusals.{Outcome, success, refusal}
+use Rattle.refusals.specs.declared.Refusal.the-variants.{DestinationTooSmall}
+use Rattle.refusals.specs.Refusals.{Outcome, success, refusal}
 use Rattle.sheet.specs.Reading.{Meaning, accepted, refused}
 use Rattle.tidyform.specs.Tidy.{tidy}
 use Rattle.tidy.specs.declared.Tidied.{Tidied}

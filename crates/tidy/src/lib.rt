@@ -11,7 +11,7 @@ ghost use Rattle.sheet.specs.Reading.{reading};
 ghost use Rattle.tidyform.specs.Tidy.{mapBytes};
 ghost use Rattle.tidy.specs.Tidying.{tidying, tidyNumbers, tidyOutcome, afterTidying};
 ghost use Rattle.tidy.specs.Copies.{copies};
-use command::Refusal;
+use refusals::Refusal;
 use sheet::Read;
 use sizes::TONES;
 use sizes::WORDS;

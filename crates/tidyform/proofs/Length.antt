@@ -16,7 +16,7 @@ use Rattle.bigendian.proofs.Stores.{length-none, length-next}
 use Rattle.line.specs.Line.{Entry, undescribed, described, Line}
 use Rattle.command.specs.declared.Header.{Header}
 use Rattle.command.specs.declared.Command.the-variants.{Describe, Silence}
-use Rattle.command.specs.Places.{toneAt}
+use Rattle.places.specs.Places.{toneAt}
 use Rattle.sheet.specs.Reading.{bareLine, effect}
 use Rattle.tidyform.specs.Tidy.{entryBytes, toneBytes, wordBytes, mapBytes, tidy}
 use Rattle.tidyform.proofs.Parts.{length-entry-le, length-word-le, tones-grow, words-grow}

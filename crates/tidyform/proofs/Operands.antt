@@ -21,7 +21,7 @@ use Rattle.line.specs.Tone.{carriedBy, carried, kindOf, isSingle, mostCap, InRa
 use Rattle.line.specs.Line.{described, isDescribed}
 use Rattle.command.specs.Rows.{Seen, Operand, within, toneNumber, map, withCode, tone}
 use Rattle.command.specs.Codes.{toneRow}
-use Rattle.command.specs.Places.{toneAt}
+use Rattle.places.specs.Places.{toneAt}
 use Rattle.command.specs.Format.{today}
 use Rattle.tidyform.specs.Tidy.{numbersOf, entryBytes}
 use Rattle.tidyform.proofs.Parts.{row-is-tone, length-described}

@@ -15,7 +15,8 @@ use Rattle.bigendian.proofs.Numbers.{number-same, number-here, length-bytes}
 use Rattle.line.specs.Line.{Line, entryOf}
 use Rattle.command.specs.declared.Command.{Command}
 use Rattle.command.specs.Rows.{Seen, Operand, Row, withCode, width, operandsFrom, rowAt, end}
-use Rattle.command.specs.Format.{today, addressed, decoded}
+use Rattle.places.specs.Places.{addressed}
+use Rattle.command.specs.Format.{today, decoded}
 use Rattle.command.proofs.Walk.{seenAt}
 use Rattle.sheet.specs.Reading.{Meaning, accepted, go, headerOf, commandIn, afterCommand, readFrom}
 use Rattle.tidyform.specs.Tidy.{operandBytes, written}

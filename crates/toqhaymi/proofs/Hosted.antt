@@ -6,8 +6,8 @@ use Prim.Native.Nat.{ℕ, _≤_, _<_}
 use borrow.Author.Tests.{lt-ltb, le-ltb}
 use lib.ListN.{length}
 use Rattle.sizes.specs.Sizes.{answerRoom}
-use Rattle.command.specs.declared.Refusal.the-variants.{DestinationTooSmall}
-use Rattle.command.specs.Refusals.{Outcome}
+use Rattle.refusals.specs.declared.Refusal.the-variants.{DestinationTooSmall}
+use Rattle.refusals.specs.Refusals.{Outcome}
 use Rattle.sheet.specs.Reading.{Meaning, accepted, refused, reading}
 use Rattle.answers.specs.declared.Reply.{Reply}
 use Rattle.answers.specs.Answers.{code, answered, withoutRoom, Says}

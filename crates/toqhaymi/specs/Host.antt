@@ -7,7 +7,7 @@ use Prim.Native.Nat.{ℕ}
 use lib.Dec.{ltb}
 use lib.ListN.{length}
 use Rattle.sizes.specs.Sizes.{answerRoom}
-use Rattle.command.specs.Refusals.{Outcome}
+use Rattle.refusals.specs.Refusals.{Outcome}
 use Rattle.sheet.specs.Reading.{reading}
 use Rattle.sheet.specs.Check.{checkOutcome}
 use Rattle.loadings.specs.Loads.{Loading, loadOutcome, afterLoading}

@@ -9,7 +9,7 @@ use borrow.Author.Tests.{le-leb, lt-leb, le-ltb, lt-ltb}
 use Rattle.bigendian.specs.Number.{number}
 use Rattle.bigendian.proofs.Numbers.{number-there}
 use Rattle.command.specs.declared.Command.{Command}
-use Rattle.command.specs.Places.{entryAt}
+use Rattle.places.specs.Places.{entryAt}
 use Rattle.command.specs.Rows.{rowAt}
 use Rattle.command.specs.Codes.{toneRow}
 use Rattle.command.proofs.Rows.{below, above, in-range, described-at, tone-operands, fromNoise, fromGain, fromCap, fromMask}

@@ -6,8 +6,8 @@ use borrow.Author.Needs.{needs}
 use lib.ListN.{length, getD}
 use Rattle.line.specs.Line.{entryOf}
 use Rattle.command.specs.declared.Command.{Command}
-use Rattle.command.specs.Places.{entryAt}
-use Rattle.command.specs.Format.{today, addressed, commandAt}
+use Rattle.places.specs.Places.{addressed, entryAt}
+use Rattle.command.specs.Format.{today, commandAt}
 use Rattle.command.proofs.Said.{Said}
 use Rattle.sheet.specs.Reading.{headerOf}
 use Rattle.sheet.proofs.Turns.{Going, starts, said, on-refused, on-more, on-end, on-head, on-describe, on-silence}

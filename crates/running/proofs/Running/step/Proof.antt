@@ -8,7 +8,7 @@ use Rattle.sizes.specs.Sizes.{mostTones}
 use Rattle.steps.specs.Tones.{Tones, Table}
 use Rattle.line.specs.Arrays.{arrays}
 use Rattle.ranks.specs.Ranks.{noStep}
-use Rattle.ranks.proofs.Found.{least-free, least-held}
+use Rattle.ranks.proofs.Least.{least-free, least-held}
 use Rattle.moves.specs.declared.Move.the-variants.{Nothing, Take, GiveUp, Exchange}
 use Rattle.moves.specs.Moves.{ruleOf, LatestAt, Takes, GivesUp, Exchanges, CallsFor}
 use Rattle.running.specs.Running.{Stands}
@@ -80,7 +80,7 @@ returns-2 c =
     let f = at .next .given .0 .0 in
     let did = c .take .ensures in (
       λ T t S. rw (did .0) (answers (R .in-range) (long s) S (Take f) _ (rw (at .next .given .1) at (called (at .before .before) T t S))),
-      did .1 .follow (s .args .count) (takes-inside (R .stands) (takes at)) (s .pre .1),
+      did .1 .still-ranked (s .args .count) (takes-inside (R .stands) (takes at)) (s .pre .1),
     )
 
 returns-3 : tie.Need-returns-3
@@ -91,7 +91,7 @@ returns-3 c =
     let h = at .next2 .given .0 .0 in
     let did = c .give-up .ensures in (
       λ T t S. rw (did .0) (answers (R .in-range) (long s) S (GiveUp h) _ (rw (at .next2 .given .1) at (called (at .before .before) T t S))),
-      did .1 .follow (s .args .count) (gives-up-inside (R .stands) (gives-up at)) (s .pre .1),
+      did .1 .still-ranked (s .args .count) (gives-up-inside (R .stands) (gives-up at)) (s .pre .1),
     )
 
 returns-4 : tie.Need-returns-4
@@ -104,9 +104,9 @@ returns-4 c =
     let f = at .next3 .given .0 .1 .0 in
     let gave = c .before .before .before .give-up2 .ensures in
     let took = c .take2 .ensures in
-    let fewer = gave .1 .follow (s .args .count) (gives-up-inside (R .stands) (X .gives-up)) (s .pre .1) in (
+    let fewer = gave .1 .still-ranked (s .args .count) (gives-up-inside (R .stands) (X .gives-up)) (s .pre .1) in (
       λ T t S. rw (took .0, gave .0) (answers (R .in-range) (long s) S (Exchange h f) _ (rw (at .next3 .given .1) at (called (at .before .before) T t S))),
-      took .1 .follow (s .args .count) (takes-inside (R .stands) (X .takes)) fewer,
+      took .1 .still-ranked (s .args .count) (takes-inside (R .stands) (X .takes)) fewer,
     )
 
 pub step-spec : {M : Type 1} → statement M

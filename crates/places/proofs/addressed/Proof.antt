@@ -1,11 +1,11 @@
--- `command::addressed` meets its contract. Assumes nothing.
+-- `places::addressed` meets its contract. Assumes nothing.
 use mathlib.Core.Path.{sym}
 use Prim.Native.Nat.{_+_}
 use native.Mathlib.Omega.{arith}
 use borrow.Author.Needs.{needs}
 use lib.ListN.{List·getD-eq-default}
-use Rattle.command.proofs.addressed.Statement.{statement}
-use Rattle.command.proofs.addressed.Tie as tie
+use Rattle.places.proofs.addressed.Statement.{statement}
+use Rattle.places.proofs.addressed.Tie as tie
 
 returns : tie.Need-returns
 returns c = (sym (List·getD-eq-default (c .before .before .args .s .now) 0 {n = c .before .before .args .at + 1} (omega arith)), omega arith)

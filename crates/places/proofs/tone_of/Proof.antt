@@ -1,6 +1,6 @@
--- `command::tone_of` meets its contract. Assumes nothing.
-use Rattle.command.proofs.tone_of.Statement.{statement}
-use Rattle.command.proofs.tone_of.Tie as tie
+-- `places::tone_of` meets its contract. Assumes nothing.
+use Rattle.places.proofs.tone_of.Statement.{statement}
+use Rattle.places.proofs.tone_of.Tie as tie
 
 returns : tie.Need-returns
 returns c = rw (c .if1 .taken)

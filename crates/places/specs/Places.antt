@@ -1,4 +1,4 @@
--- What the command at a place of a sheet carries: a tone is decoded from its place where it is wanted.
+-- What the command at a place of a sheet carries: the tone that it addresses, and the tone that it describes.
 -- Assumes nothing.
 use mathlib.Core.List.{List}
 use Prim.Native.Nat.{ℕ, zero, suc, _+_}
@@ -8,6 +8,10 @@ use Rattle.bigendian.specs.Number.{numberAt}
 use Rattle.line.specs.declared.Tone.{Tone}
 use Rattle.line.specs.Tone.{kindOf}
 use Rattle.line.specs.Line.{Entry, undescribed, described}
+
+-- The tone that the command at a place addresses, if it addresses one: the byte after the command's own.
+abbrev pub addressed : List ℕ → (at : ℕ) → ℕ
+addressed s at = getD s (at + 1) 0
 
 -- 'tone 1, noise 2, gain 2, cap 1, mask 8', after the command's byte; what is not there reads as 0
 abbrev pub toneAt : List ℕ → (place : ℕ) → Tone

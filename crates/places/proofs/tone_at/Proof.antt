@@ -1,8 +1,8 @@
--- `command::tone_at` meets its contract. Assumes nothing.
+-- `places::tone_at` meets its contract. Assumes nothing.
 use mathlib.Core.Path.{_∙_}
 use borrow.Author.Needs.{needs}
-use Rattle.command.proofs.tone_at.Statement.{statement}
-use Rattle.command.proofs.tone_at.Tie as tie
+use Rattle.places.proofs.tone_at.Statement.{statement}
+use Rattle.places.proofs.tone_at.Tie as tie
 
 returns : tie.Need-returns
 returns c =
