@@ -15,11 +15,11 @@ use command::refusal_number;
 use command::refusal_place;
 use loadings::Loaded;
 use loadings::Refitted;
-use sampletext::ROOM;
-use sampletext::filled;
-use sampletext::same;
-use sampletext::wide;
-use sampletext::within;
+use samplebuffers::ROOM;
+use samplebuffers::filled;
+use samplebuffers::same;
+use samplebuffers::wide;
+use samplebuffers::within;
 use sheet::Checked;
 use sizes::TONE_BYTES;
 
