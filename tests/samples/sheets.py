@@ -607,7 +607,7 @@ for _ in range(12):
     target(max(0, sum(bits) - dice.randint(-1, 3)), sheet)
 
 text = "".join(r + "\n" for r in ROWS)
-# The test program's buffer for its text (`text_buffer` of crates/sampletext).
+# The test program's buffer for its text (`text_buffer` of crates/samplebuffers).
 assert len(text) <= 131072, len(text)
 for name, what in [("stdin", text), ("stdout", model.expected(text))]:
     with open(sys.argv[1] + "/" + name, "w") as f:

@@ -15,11 +15,11 @@ use loadings::Refitted;
 use refusals::Refusal;
 use refusals::refusal_number;
 use refusals::refusal_place;
-use sampletext::ROOM;
-use sampletext::filled;
-use sampletext::same;
-use sampletext::wide;
-use sampletext::within;
+use samplebuffers::ROOM;
+use samplebuffers::filled;
+use samplebuffers::same;
+use samplebuffers::wide;
+use samplebuffers::within;
 use sheet::Checked;
 use sizes::TONE_BYTES;
 

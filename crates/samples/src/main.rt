@@ -20,11 +20,11 @@ use printing::print_pair;
 use printing::print_touched;
 use refusals::refusal_number;
 use refusals::refusal_place;
-use sampletext::ROOM;
-use sampletext::filled;
+use samplebuffers::ROOM;
+use samplebuffers::filled;
+use samplebuffers::same;
+use samplebuffers::within;
 use sampletext::read_bytes;
-use sampletext::same;
-use sampletext::within;
 use sheet::Checked;
 use tidy::Tidied;
 
@@ -163,7 +163,7 @@ fn show_lines(text: &[u8]) {
 }
 
 fn main() {
-    let mut text = sampletext::text_buffer();
+    let mut text = samplebuffers::text_buffer();
     let n = io::read_full(0, &mut text);
     show_lines(&text[..n]);
 }

@@ -1,8 +1,8 @@
 // What the test program prints: text, numbers, bytes, and whether a buffer was written to.
-use sampletext::ROOM;
-use sampletext::filled;
-use sampletext::same;
-use sampletext::wide;
+use samplebuffers::ROOM;
+use samplebuffers::filled;
+use samplebuffers::same;
+use samplebuffers::wide;
 
 pub(crate) fn print(text: &[u8]) {
     io::write_all(1, text);

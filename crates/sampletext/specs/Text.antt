@@ -1,21 +1,8 @@
 -- What is read of the test program's text, by its characters. Assumes nothing.
 use mathlib.Core.Bool.{cond, _&&_}
 use mathlib.Core.List.{List, [], _∷_}
-use mathlib.Core.Path.{_≡_}
-use Prim.Native.Nat.{ℕ, suc, _+_, _*_, _-_, _<_}
+use Prim.Native.Nat.{ℕ, suc, _+_, _*_, _-_}
 use lib.Dec.{leb, ltb, eqb}
-use lib.ListN.{getD}
-
--- the bytes of a buffer for a sheet or a table, and of the one for the text
-abbrev pub room : ℕ
-room = 4200
-
-abbrev pub textRoom : ℕ
-textRoom = 131072
-
--- what a buffer for a sheet or a table is filled with
-abbrev pub fill : ℕ
-fill = 0xa5
 
 -- how many characters stand before the first that is wanted: all of them where none is
 unfoldable pub skipped : List ℕ → (wanted : ℕ) → ℕ
@@ -31,7 +18,3 @@ unfoldable pub spelled : (value : ℕ) → List ℕ → ℕ
 spelled value [] = value
 spelled value (c ∷ text) =
     cond (ltb 9 (digitOf c)) value (cond (ltb 999999999 value) value (spelled (value * 10 + digitOf c) text))
-
--- the first n bytes of two buffers are the same
-abbrev pub SameBytes : (n : ℕ) → (a b : List ℕ) → Type 0
-SameBytes n a b = (i : ℕ) → i < n → getD a i 0 ≡ getD b i 0

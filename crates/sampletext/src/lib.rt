@@ -1,22 +1,14 @@
-// The text of the test program: bytes and numbers read from it, and the buffers for them.
+// The text of the test program: bytes and numbers read from it.
 //
 // Two hex digits are a byte, with blanks between or not. `hh*n` repeats the byte hh n times, and
 // `(..)*n` what stands between, which has no such group in it. `++` is a byte that counts from 0, one
 // more each time, and `==` is that byte again. Any other character is passed over.
-ghost use Prim.Native.Nat.{ℕ, _+_, _≤_, _<_, min, max};
-ghost use mathlib.Core.Bool.{true, false};
+ghost use Prim.Native.Nat.{_+_, _≤_, _<_, min, max};
 ghost use mathlib.Core.Path.{_≡_};
-ghost use lib.ListN.{length, getD, drop};
+ghost use lib.ListN.{length, drop};
 ghost use Rattle.lists.specs.Lent.{before, after};
 ghost use Rattle.io.specs.Counts.{Counts};
-ghost use Rattle.sampletext.specs.Text.{room, fill, textRoom, skipped, digitOf, spelled, SameBytes};
-
-// Room for a sheet, above the 4,096 bytes that a sheet may have.
-pub const ROOM: usize = 4200;
-// Room for the text.
-const TEXT_ROOM: usize = 131072;
-// What a buffer is filled with, so that a byte that is written shows.
-const FILL: u8 = 0xa5;
+ghost use Rattle.sampletext.specs.Text.{skipped, digitOf, spelled};
 
 // A decimal number of the text, and where it ends.
 struct Number {
@@ -248,49 +240,4 @@ pub fn read_bytes(text: &[u8], buffer: &mut [u8]) -> usize
         at = times.next;
     }
     reading.bytes
-}
-
-pub fn wide(byte: u8) -> u64
-    ensures { λ r. ⌜ r ≡ byte ⌝ }
-{
-    byte as u64
-}
-
-// A buffer for the text.
-pub fn text_buffer() -> [u8; TEXT_ROOM]
-    ensures { λ r. ⌜ textRoom ≡ length r ⌝ }
-    ensures bytes { λ r. ⌜ ((i : ℕ) → i < textRoom → getD r i 0 ≡ 0) ⌝ }
-{
-    [0; TEXT_ROOM]
-}
-
-// A buffer for a sheet or a table, every byte of it 0xa5.
-pub fn filled() -> [u8; ROOM]
-    ensures { λ r. ⌜ room ≡ length r ⌝ }
-    ensures bytes { λ r. ⌜ ((i : ℕ) → i < room → getD r i 0 ≡ fill) ⌝ }
-{
-    [FILL; ROOM]
-}
-
-// A length as a number of a buffer's bytes.
-pub fn within(n: usize, buffer: &[u8]) -> usize
-    ensures { λ r. ⌜ Counts r (before buffer) ⌝ }
-    ensures number { λ r. ⌜ r ≡ min n (length (before buffer)) ⌝ }
-{
-    least(n, buffer.len())
-}
-
-// Whether two buffers hold the same bytes.
-pub fn same(a: &[u8; ROOM], b: &[u8; ROOM]) -> bool
-    ensures yes { λ r. ⌜ (r ≡ true → SameBytes room (before a) (before b)) ⌝ }
-    ensures no { λ r. ⌜ (r ≡ false → SameBytes room (before a) (before b) → ⊥) ⌝ }
-{
-    let mut i = 0;
-    while i < ROOM {
-        if a[i] != b[i] {
-            return false;
-        }
-        i += 1;
-    }
-    true
 }

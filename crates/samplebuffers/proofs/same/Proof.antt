@@ -1,13 +1,13 @@
--- `sampletext::same` meets its contract: between its turns the bytes passed are the same. Assumes nothing.
+-- `samplebuffers::same` meets its contract: between its turns the bytes passed are the same. Assumes nothing.
 use mathlib.Core.Bool.{true≢false}
 use mathlib.Core.Path.{sym}
 use Prim.Native.Nat.{_-_}
 use native.Mathlib.Omega.{arith}
 use borrow.Author.Count.{below-more}
 use borrow.Author.Needs.{needs}
-use Rattle.sampletext.specs.Text.{room, SameBytes}
-use Rattle.sampletext.proofs.same.Statement.{statement}
-use Rattle.sampletext.proofs.same.Tie as tie
+use Rattle.samplebuffers.specs.Buffers.{room, SameBytes}
+use Rattle.samplebuffers.proofs.same.Statement.{statement}
+use Rattle.samplebuffers.proofs.same.Tie as tie
 
 abbrev Inv-loop : tie.InvT-loop
 Inv-loop a b i₀ i = SameBytes i a b
