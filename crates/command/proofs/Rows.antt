@@ -19,7 +19,7 @@ use borrow.Author.Tests.{le-ltb, lt-ltb, lt-leb, ne-eqb}
 use borrow.Author.Needs.{needs}
 use lib.Dec.{T, leb, ltb, eqb, ltb→lt}
 use lib.ListN.{length, getD}
-use Rattle.sizes.specs.Sizes.{mostWords, mostPower, longestSheet}
+use Rattle.sizes.specs.Sizes.{mostWords, mostPower, longestSheet, toneCommand}
 use Rattle.bigendian.specs.Number.{number}
 use Rattle.silence.specs.Map.{namesBeyond}
 use Rattle.line.specs.Tone.{mostCap}
@@ -184,7 +184,7 @@ header-width (suc zero) l h = refl
 header-width (suc (suc zero)) l h = refl
 header-width (suc (suc (suc n))) l h = absurd (omega arith)
 
-pub tone-width : (isSingle : Bool) → width (toneRow isSingle .operands) ≡ 14
+pub tone-width : (isSingle : Bool) → 1 + width (toneRow isSingle .operands) ≡ toneCommand
 tone-width false = refl
 tone-width true = refl
 

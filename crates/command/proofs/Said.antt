@@ -11,7 +11,7 @@ use borrow.Author.Needs.{needs}
 use borrow.Author.Tests.{leb-false, ltb-false}
 use lib.Dec.{leb}
 use lib.ListN.{length, getD}
-use Rattle.sizes.specs.Sizes.{mostWords, longestSheet}
+use Rattle.sizes.specs.Sizes.{mostWords, longestSheet, toneCommand}
 use Rattle.lists.proofs.Tests.{by-test}
 use Rattle.bigendian.specs.Number.{number}
 use Rattle.silence.specs.Map.{namesBeyond}
@@ -42,7 +42,7 @@ pub record DescribesTone (h : Header) (known : Entry) (s : List ℕ) (at stage n
   pub there : There (length s) at next
   pub late : 3 ≤ stage
   pub code : (getD s at 0 ≡ 4) ⊎ (getD s at 0 ≡ 5)
-  pub whole : at + 15 ≤ length s
+  pub whole : at + toneCommand ≤ length s
   pub tone : i ≡ addressed s at
   pub of-line : i < h .size
   pub new : isDescribed known ≡ false

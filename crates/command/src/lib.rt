@@ -2,7 +2,7 @@
 ghost use mathlib.Core.Path.{_≡_};
 ghost use Prim.Native.Nat.{_+_, _≤_};
 ghost use lib.ListN.{length};
-ghost use Rattle.sizes.specs.Sizes.{longestSheet};
+ghost use Rattle.sizes.specs.Sizes.{longestSheet, toneCommand, silenceCommand};
 ghost use Rattle.lists.specs.Lent.{before};
 ghost use Rattle.line.specs.Tone.{mostCap};
 ghost use Rattle.line.specs.Line.{Entry};
@@ -17,7 +17,9 @@ use refusals::Refusal;
 use sizes::MOST_POWER;
 use sizes::PAIR_CAP;
 use sizes::SHEET_BYTES;
+use sizes::SILENCE_COMMAND;
 use sizes::SINGLE_CAP;
+use sizes::TONE_COMMAND;
 use sizes::TONES;
 use sizes::WORDS;
 
@@ -104,7 +106,7 @@ fn most_cap(is_single: bool) -> u8
 
 // A tone command of either kind, all of whose bytes are there. `place` is where its tone is described already, or 0.
 fn tone_command(s: &[u8], at: usize, header: Header, place: u16, is_single: bool) -> Command
-    requires { ⌜ at + 15 ≤ length (now s) ⌝ }
+    requires { ⌜ at + toneCommand ≤ length (now s) ⌝ }
     requires { ⌜ length (now s) ≤ longestSheet ⌝ }
     ensures { λ r. ⌜ r ≡ rowAt header (entryAt (before s) place) (before s) at (toneRow «is_single») ⌝ }
 {
@@ -133,7 +135,7 @@ fn tone_command(s: &[u8], at: usize, header: Header, place: u16, is_single: bool
 
 // The silence command, all of whose bytes are there.
 fn silence_command(s: &[u8], at: usize, header: Header) -> Command
-    requires { ⌜ at + 6 ≤ length (now s) ⌝ }
+    requires { ⌜ at + silenceCommand ≤ length (now s) ⌝ }
     requires { ⌜ length (now s) ≤ longestSheet ⌝ }
     ensures { λ r. ⌜ ((known : Entry) → r ≡ rowAt header known (before s) at silenceRow) ⌝ }
 {
@@ -162,8 +164,8 @@ fn command_bytes(stage: u8, code: u8) -> usize
         return if code == 3 { 9 } else { 0 };
     }
     match code {
-        4 | 5 => 15,
-        6 => 6,
+        4 | 5 => TONE_COMMAND,
+        6 => SILENCE_COMMAND,
         7 => 1,
         _ => 0,
     }

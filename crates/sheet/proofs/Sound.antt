@@ -16,7 +16,7 @@ use lib.Bits.{bitOr}
 use lib.Dec.{ltb, eqb}
 use lib.ListN.{length, getD, set, length-set, length-replicate}
 use lib.Seq.{set-out}
-use Rattle.sizes.specs.Sizes.{mostTones, mostWords, wordTones, wordsOf, longestSheet, mostPower}
+use Rattle.sizes.specs.Sizes.{mostTones, mostWords, wordTones, wordsOf, longestSheet, mostPower, toneCommand}
 use Rattle.lists.proofs.Tests.{by-test}
 use Rattle.lists.proofs.Stores.{all-same, after-store}
 use Rattle.bigendian.specs.Number.{number, numberAt}
@@ -145,7 +145,7 @@ module _ (s : List ℕ) (bytes : Bytes s) where
         let mask-is = there 7 8 (at + 1 + 1 + 2 + 2 + 1) (omega arith) (omega arith) (omega arith) in
         describes s at _ l z (rw (is, kind) (in-range isSingle _ (omega arith) (omega arith) (omega arith) (omega arith) (omega arith) (omega arith)))
       where
-        there : (k w place : ℕ) → w ≤ 8 → k + w ≤ 15 → place ≡ at + k → numberAt s (at + k) w ≡ number s place w
+        there : (k w place : ℕ) → w ≤ 8 → k + w ≤ toneCommand → place ≡ at + k → numberAt s (at + k) w ≡ number s place w
         there k w place small inside e = number-there s (at + k) w small (omega arith) ∙ ap (λ (q : ℕ). number s q w) (sym e)
 
     silence-leads : (n : ℕ) → Sound l → Leads today s Along Sound at (suc (suc (suc n))) l (silence mostWords)

@@ -22,6 +22,13 @@ pub const MOST_BITS: u32 = TONES as u32 * PAIR_CAP as u32;
 // The largest budget and the largest mask: 2^47.
 pub const MOST_POWER: u64 = 0x8000_0000_0000;
 
+// The bytes of a command that describes a tone, of one that silences, and of the first three commands together.
+pub const TONE_COMMAND: usize = 15;
+
+pub const SILENCE_COMMAND: usize = 6;
+
+pub const HEADER_BYTES: usize = 15;
+
 // The bytes of a tone in a written table: its bits, and its power in 8 bytes.
 pub const TONE_BYTES: usize = 9;
 

@@ -10,7 +10,7 @@ use native.Mathlib.Nat.{add-zero, add-assoc}
 use native.Mathlib.Omega.{arith}
 use lib.Dec.{eqb}
 use lib.ListN.{length, getD, length-append, List·getD-eq-default}
-use Rattle.sizes.specs.Sizes.{mostWords, wordsOf}
+use Rattle.sizes.specs.Sizes.{mostWords, wordsOf, toneCommand}
 use Rattle.bigendian.specs.Number.{number, bytes}
 use Rattle.bigendian.proofs.Numbers.{number-there}
 use Rattle.bigendian.proofs.Stores.{Growing}
@@ -79,7 +79,7 @@ module _ (s : List ℕ) (b : Bytes s) where
   byte-part : (at : ℕ) → bytes 1 (getD s at 0) ≡ part s at 1
   byte-part at = ap (bytes 1) (sym (number-one s at)) ∙ bytes-number s b at 1
 
-  tone-copy : (i at : ℕ) → ToneStands s i at → entryBytes i (described (toneAt s at)) ≡ part s at 15
+  tone-copy : (i at : ℕ) → ToneStands s i at → entryBytes i (described (toneAt s at)) ≡ part s at toneCommand
   tone-copy i at h =
       rw (
         row-is-tone (isSingle (toneAt s at .kind)),

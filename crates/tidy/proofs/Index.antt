@@ -6,7 +6,7 @@ use Prim.Native.Nat.{ℕ, _+_}
 use native.Mathlib.Omega.{arith}
 use lib.ListN.{length, getD, set}
 use lib.Seq.{sets}
-use Rattle.sizes.specs.Sizes.{mostWords, wordsOf}
+use Rattle.sizes.specs.Sizes.{mostWords, wordsOf, headerBytes}
 use Rattle.bigendian.specs.Number.{bytes}
 use Rattle.line.specs.Line.{Line}
 use Rattle.command.specs.declared.Header.{Header}
@@ -36,13 +36,13 @@ module _ {s places maps : List ℕ} {h : Header} (x : Indexed s h places maps) w
       is-line : l ≡ x .line
       is-line = cc (x .means)
 
-      pub tidy-bytes : length (tidy l) ≡ 16 + length (copies (h .size) s places) + length (mapBytes mostWords maps)
+      pub tidy-bytes : length (tidy l) ≡ headerBytes + 1 + length (copies (h .size) s places) + length (mapBytes mostWords maps)
       tidy-bytes = rw is-line (omega (arith, length-tidy (x .line), ap length tones-are, ap length words-are))
 
       pub tidy-stores : (out : List ℕ)
           → (let head = sets (set (sets (set (sets (set out 0 1) 1 (bytes 2 (h .size))) 3 2) 4 (bytes 2 (h .gap))) 6 3) 7 (bytes 8 (h .budget)) in
           let tones = copies (h .size) s places in
           let words = mapBytes mostWords maps in
-          set (sets (sets head 15 tones) (15 + length tones) words) (15 + length tones + length words) 7)
+          set (sets (sets head headerBytes tones) (headerBytes + length tones) words) (headerBytes + length tones + length words) 7)
           ≡ sets out 0 (tidy l)
       tidy-stores out = rw is-line (sym (line-stores out (x .line) h _ _ (x .header-is) tones-are words-are))

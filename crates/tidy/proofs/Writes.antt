@@ -7,7 +7,7 @@ use native.Mathlib.Numerals.{add-one}
 use native.Mathlib.Omega.{arith}
 use lib.ListN.{length, getD, set}
 use lib.Seq.{sets}
-use Rattle.sizes.specs.Sizes.{wordsOf}
+use Rattle.sizes.specs.Sizes.{wordsOf, toneCommand, silenceCommand, headerBytes}
 use Rattle.bigendian.specs.Number.{bytes}
 use Rattle.bigendian.proofs.Numbers.{length-bytes, bytes-one}
 use Rattle.bigendian.proofs.Stores.{Growing, sets-append}
@@ -26,12 +26,12 @@ pub copies-grow : (s places : List ℕ) → Growing (λ n. copies n s places) (�
 unfolding copies
 copies-grow s places = record { none = refl; next = λ n. refl }
 
-pub copy-there : (s : List ℕ) (place : ℕ) → 0 < place → toneCopy s place ≡ part s place 15
+pub copy-there : (s : List ℕ) (place : ℕ) → 0 < place → toneCopy s place ≡ part s place toneCommand
 copy-there s zero h = absurd (omega arith)
 copy-there s (suc p) h = refl
 
-pub length-copy : (s : List ℕ) (place : ℕ) → 0 < place → length (toneCopy s place) ≡ 15
-length-copy s place h = ap length (copy-there s place h) ∙ length-part s place 15
+pub length-copy : (s : List ℕ) (place : ℕ) → 0 < place → length (toneCopy s place) ≡ toneCommand
+length-copy s place h = ap length (copy-there s place h) ∙ length-part s place toneCommand
 
 pub no-copy : (s : List ℕ) {place : ℕ} → place ≡ 0 → toneCopy s place ≡ []
 no-copy s e = rw e
@@ -52,7 +52,7 @@ pub word-stores : (out : List ℕ) (at word map : ℕ) → word < 256
 word-stores out at word map h =
     rw add-one (
     sets-bytes (set out at 6) (suc at) 1 word _ (at + 2) (omega arith)
-    ∙ sets-bytes _ (at + 2) 4 map [] (at + 6) (omega arith)
+    ∙ sets-bytes _ (at + 2) 4 map [] (at + silenceCommand) (omega arith)
     ∙ rw (bytes-one word h))
 
 -- the first three commands, the tones, the words and the end
@@ -60,7 +60,7 @@ pub line-stores : (out : List ℕ) (l : Line) (h : Header) (tones words : List �
     → mapBytes (wordsOf (l .size)) (l .maps) ≡ words
     → sets out 0 (tidy l)
     ≡ (let head = sets (set (sets (set (sets (set out 0 1) 1 (bytes 2 (h .size))) 3 2) 4 (bytes 2 (h .gap))) 6 3) 7 (bytes 8 (h .budget)) in
-    set (sets (sets head 15 tones) (15 + length tones) words) (15 + length tones + length words) 7)
+    set (sets (sets head headerBytes tones) (headerBytes + length tones) words) (headerBytes + length tones + length words) 7)
 unfolding tidy
 line-stores out l h tones words e f g = rw (f, g, ← e) (stores (l .size) (l .gap) (l .budget))
   where

@@ -5,7 +5,7 @@ ghost use mathlib.Core.List.{List};
 ghost use mathlib.Core.Path.{_≡_};
 ghost use Prim.Native.Nat.{ℕ, _*_, _≤_};
 ghost use lib.ListN.{length};
-ghost use Rattle.sizes.specs.Sizes.{mostTones, mostWords};
+ghost use Rattle.sizes.specs.Sizes.{mostTones, mostWords, toneCommand, silenceCommand};
 ghost use Rattle.lists.specs.Lent.{before, after};
 ghost use Rattle.sheet.specs.Reading.{reading};
 ghost use Rattle.tidyform.specs.Tidy.{mapBytes};
@@ -13,19 +13,25 @@ ghost use Rattle.tidy.specs.Tidying.{tidying, tidyNumbers, tidyOutcome, 
 ghost use Rattle.tidy.specs.Copies.{copies};
 use refusals::Refusal;
 use sheet::Read;
+use sizes::HEADER_BYTES;
+use sizes::SILENCE_COMMAND;
+use sizes::TONE_COMMAND;
 use sizes::TONES;
 use sizes::WORDS;
+
+// The bytes of a tidy form without tones: the first three commands and the end.
+const BARE_BYTES: usize = HEADER_BYTES + 1;
 
 // How many bytes the described tones take, in any sheet.
 fn tones_bytes(size: u16, places: &[u16; TONES]) -> usize
     requires { ⌜ size ≤ mostTones ⌝ }
-    ensures { λ r. ⌜ ((s : List ℕ) → r ≡ length (copies size s (before places))) × (r ≤ 15 * mostTones) ⌝ }
+    ensures { λ r. ⌜ ((s : List ℕ) → r ≡ length (copies size s (before places))) × (r ≤ toneCommand * mostTones) ⌝ }
 {
     let mut bytes: usize = 0;
     let mut i: u16 = 0;
     while i < size {
         if 0 < places[i as usize] {
-            bytes += 15;
+            bytes += TONE_COMMAND;
         }
         i += 1;
     }
@@ -34,13 +40,13 @@ fn tones_bytes(size: u16, places: &[u16; TONES]) -> usize
 
 // How many bytes the silence maps take.
 fn words_bytes(maps: &[u32; WORDS]) -> usize
-    ensures { λ r. ⌜ (r ≡ length (mapBytes mostWords (before maps))) × (r ≤ 6 * mostWords) ⌝ }
+    ensures { λ r. ⌜ (r ≡ length (mapBytes mostWords (before maps))) × (r ≤ silenceCommand * mostWords) ⌝ }
 {
     let mut bytes: usize = 0;
     let mut word: usize = 0;
     while word < WORDS {
         if maps[word] != 0 {
-            bytes += 6;
+            bytes += SILENCE_COMMAND;
         }
         word += 1;
     }
@@ -65,7 +71,7 @@ pub fn tidy(s: &[u8], out: &mut [u8]) -> Tidied
     match read {
         Read::Refused(refusal) => Tidied::Refused(refusal),
         Read::Accepted(header) => {
-            let bytes = 16 + tones_bytes(header.size, &places) + words_bytes(&maps);
+            let bytes = BARE_BYTES + tones_bytes(header.size, &places) + words_bytes(&maps);
             if out.len() < bytes {
                 return Tidied::Refused(Refusal::DestinationTooSmall);
             }

@@ -11,6 +11,9 @@ ghost use Rattle.sheet.specs.Index.{Indexed};
 ghost use Rattle.tidyform.specs.Tidy.{wordBytes, mapBytes, tidy};
 ghost use Rattle.tidy.specs.Copies.{part, Inside, toneCopy, copies};
 use command::Header;
+use sizes::HEADER_BYTES;
+use sizes::SILENCE_COMMAND;
+use sizes::TONE_COMMAND;
 use sizes::TONES;
 use sizes::WORDS;
 
@@ -37,8 +40,8 @@ fn put_tone(s: &[u8], place: u16, out: &mut [u8], at: usize) -> usize
     if place < 1 {
         return at;
     }
-    copy(s, place as usize, 15, out, at);
-    at + 15
+    copy(s, place as usize, TONE_COMMAND, out, at);
+    at + TONE_COMMAND
 }
 
 // The described tones in rising number, from a place on. Answers the place after them.
@@ -70,7 +73,7 @@ fn put_word(out: &mut [u8], at: usize, word: u8, map: u32) -> usize
     out[at] = 6;
     out[at + 1] = word;
     bigendian::put_number(out, at + 2, 4, map as u64);
-    at + 6
+    at + SILENCE_COMMAND
 }
 
 // The silence commands of the words in rising order, from a place on. Answers the place after them.
@@ -106,7 +109,7 @@ pub(crate) fn put_line(
     bigendian::put_number(out, 4, 2, header.gap as u64);
     out[6] = 3;
     bigendian::put_number(out, 7, 8, header.budget);
-    let tones_end = put_tones(s, header.size, places, out, 15);
+    let tones_end = put_tones(s, header.size, places, out, HEADER_BYTES);
     let words_end = put_words(out, tones_end, maps);
     out[words_end] = 7;
 }

@@ -9,7 +9,7 @@ use native.Mathlib.Omega.{arith}
 use lib.Bits.{bitOr}
 use lib.ListN.{length, getD, set, length-append}
 use lib.Seq.{getD-set-other}
-use Rattle.sizes.specs.Sizes.{mostTones, longestSheet, wordsOf}
+use Rattle.sizes.specs.Sizes.{mostTones, longestSheet, wordsOf, toneCommand, silenceCommand}
 use Rattle.lists.proofs.Stores.{all-same}
 use Rattle.bigendian.proofs.Numbers.{length-bytes}
 use Rattle.bigendian.proofs.Stores.{length-none, length-next}
@@ -97,11 +97,11 @@ pub length-tidy : (l : Line) → length (tidy l) ≡ 16 + (length (toneBytes (l 
 unfolding tidy
 length-tidy l = simp (length-append, length-bytes) (omega arith)
 
--- 16 + 15 × 256 + 6 × 8 bytes at most
+-- at most 16 bytes, with 15 for each of 256 tones and 6 for each of 8 words
 pub tidy-short : (l : Line) → l .size ≤ mostTones → length (tidy l) ≤ longestSheet
 tidy-short l h =
     let words = wordsOf (l .size) in
-    omega (arith, length-tidy l, all-le tones 15 length-entry-le (l .size) (l .entries), all-le maps 6 length-word-le words (l .maps))
+    omega (arith, length-tidy l, all-le tones toneCommand length-entry-le (l .size) (l .entries), all-le maps silenceCommand length-word-le words (l .maps))
 
 -- nothing described and nothing silenced
 pub tidy-bare : (h : Header) → length (tidy (bareLine h)) ≡ 16
@@ -115,20 +115,20 @@ tidy-bare h =
     )
 
 module _ (l : Line) (s : List ℕ) (at : ℕ) where
-  pub tidy-describe : (i : ℕ) → length (tidy (effect (Describe i) s at l)) ≤ length (tidy l) + 15
+  pub tidy-describe : (i : ℕ) → length (tidy (effect (Describe i) s at l)) ≤ length (tidy l) + toneCommand
   tidy-describe i =
       omega (
         arith,
         length-tidy l,
         length-tidy (effect (Describe i) s at l),
-        set-adds tones 15 length-entry-le (l .size) (l .entries) i (described (toneAt s at)),
+        set-adds tones toneCommand length-entry-le (l .size) (l .entries) i (described (toneAt s at)),
       )
 
-  pub tidy-silence : (word map : ℕ) → length (tidy (effect (Silence word map) s at l)) ≤ length (tidy l) + 6
+  pub tidy-silence : (word map : ℕ) → length (tidy (effect (Silence word map) s at l)) ≤ length (tidy l) + silenceCommand
   tidy-silence word map =
       omega (
         arith,
         length-tidy l,
         length-tidy (effect (Silence word map) s at l),
-        set-adds maps 6 length-word-le (wordsOf (l .size)) (l .maps) word (bitOr (getD (l .maps) word 0) map),
+        set-adds maps silenceCommand length-word-le (wordsOf (l .size)) (l .maps) word (bitOr (getD (l .maps) word 0) map),
       )

@@ -9,7 +9,7 @@ use native.Mathlib.Omega.{arith}
 use borrow.Author.Tests.{le-ltb, lt-leb}
 use lib.Dec.{eqb}
 use lib.ListN.{length, getD, drop, length-append}
-use Rattle.sizes.specs.Sizes.{mostPower}
+use Rattle.sizes.specs.Sizes.{mostPower, toneCommand}
 use Rattle.bigendian.specs.Number.{bytes, numberAt}
 use Rattle.bigendian.proofs.Numbers.{number-there, length-bytes, bytes-one}
 use Rattle.silence.specs.Map.{namesBeyond}
@@ -101,7 +101,7 @@ tone-stands s q at i t I h e =
     x : Numbers
     x = carried t
 
-    reads : (k w v : ℕ) (r : List ℕ) → w ≤ 8 → k + w ≤ 15 → v < 256 ^ w → drop (at + k) s ≡ bytes w v ++ r → numberAt s (at + k) w ≡ v
+    reads : (k w v : ℕ) (r : List ℕ) → w ≤ 8 → k + w ≤ toneCommand → v < 256 ^ w → drop (at + k) s ≡ bytes w v ++ r → numberAt s (at + k) w ≡ v
     reads k w v r a b f d =
         number-there s (at + k) w a (omega (arith, stands-length s _ at h e, length-append (entryBytes i (described t)) q, length-described i t))
         ∙ number-stands s r (at + k) w v f d

@@ -7,6 +7,7 @@ use native.Mathlib.Decide.{ℕ-discrete}
 use native.Mathlib.Omega.{arith}
 use borrow.Author.Tests.{eq-eqb, ne-eqb}
 use lib.ListN.{length, getD, length-append}
+use Rattle.sizes.specs.Sizes.{toneCommand, silenceCommand}
 use Rattle.bigendian.proofs.Numbers.{length-bytes}
 use Rattle.bigendian.proofs.Stores.{Growing}
 use Rattle.line.specs.declared.Tone.{Tone}
@@ -23,11 +24,11 @@ pub row-is-tone : (single : Bool) → toneRow single ≡ tone (toneRow single .c
 row-is-tone false = refl
 row-is-tone true = refl
 
-pub length-described : (i : ℕ) (t : Tone) → length (entryBytes i (described t)) ≡ 15
+pub length-described : (i : ℕ) (t : Tone) → length (entryBytes i (described t)) ≡ toneCommand
 length-described i t =
     ap (λ (r : Row). length (written r (numbersOf i (carried t)))) (row-is-tone (isSingle (t .kind))) ∙ simp (length-append, length-bytes)
 
-pub length-entry-le : (i : ℕ) (e : Entry) → length (entryBytes i e) ≤ 15
+pub length-entry-le : (i : ℕ) (e : Entry) → length (entryBytes i e) ≤ toneCommand
 length-entry-le i undescribed = omega arith
 length-entry-le i (described t) = omega (arith, length-described i t)
 
@@ -37,16 +38,16 @@ no-word word {map} e = rw (eq-eqb map 0 e)
 pub some-word : (word : ℕ) {map : ℕ} → (map ≡ 0 → ⊥) → wordBytes word map ≡ written silenceRow (word ∷ map ∷ [])
 some-word word {map} n = rw (ne-eqb map 0 n)
 
-pub length-word : (word : ℕ) {map : ℕ} → (map ≡ 0 → ⊥) → length (wordBytes word map) ≡ 6
+pub length-word : (word : ℕ) {map : ℕ} → (map ≡ 0 → ⊥) → length (wordBytes word map) ≡ silenceCommand
 length-word word {map} n = ap length (some-word word n) ∙ simp (length-append, length-bytes)
 
 pub length-no-word : (word : ℕ) {map : ℕ} → map ≡ 0 → length (wordBytes word map) ≡ 0
 length-no-word word e = ap length (no-word word e)
 
-pub length-word-le : (word map : ℕ) → length (wordBytes word map) ≤ 6
+pub length-word-le : (word map : ℕ) → length (wordBytes word map) ≤ silenceCommand
 length-word-le word map = by-zero (ℕ-discrete map 0)
   where
-    by-zero : Dec (map ≡ 0) → length (wordBytes word map) ≤ 6
+    by-zero : Dec (map ≡ 0) → length (wordBytes word map) ≤ silenceCommand
     by-zero (yes e) = omega (arith, length-no-word word e)
     by-zero (no n) = omega (arith, length-word word n)
 

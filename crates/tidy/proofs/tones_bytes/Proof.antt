@@ -6,6 +6,7 @@ use Prim.Native.Nat.{ℕ, suc, _+_, _-_, _*_, _≤_}
 use native.Mathlib.Numerals.{add-one}
 use native.Mathlib.Omega.{arith}
 use lib.ListN.{length, getD}
+use Rattle.sizes.specs.Sizes.{toneCommand}
 use Rattle.bigendian.proofs.Stores.{length-none, length-next}
 use Rattle.tidy.specs.Copies.{toneCopy, copies}
 use Rattle.tidy.proofs.Writes.{copies-grow, length-copy, length-no-copy}
@@ -13,7 +14,7 @@ use Rattle.tidy.proofs.tones_bytes.Statement.{statement}
 use Rattle.tidy.proofs.tones_bytes.Tie as tie
 
 abbrev Inv-loop : tie.InvT-loop
-Inv-loop size places bytes₀ i₀ bytes i = (i ≤ size) × ((s : List ℕ) → bytes ≡ length (copies i s places)) × (bytes ≤ 15 * i)
+Inv-loop size places bytes₀ i₀ bytes i = (i ≤ size) × ((s : List ℕ) → bytes ≡ length (copies i s places)) × (bytes ≤ toneCommand * i)
 
 abbrev μ-loop : tie.MeasureT-loop
 μ-loop size places bytes₀ i₀ bytes i = size - i

@@ -5,7 +5,7 @@ use Prim.Native.Nat.{_-_, _*_, _≤_}
 use native.Mathlib.Numerals.{add-one}
 use native.Mathlib.Omega.{arith}
 use lib.ListN.{length}
-use Rattle.sizes.specs.Sizes.{mostWords}
+use Rattle.sizes.specs.Sizes.{mostWords, silenceCommand}
 use Rattle.bigendian.proofs.Stores.{length-none, length-next}
 use Rattle.tidyform.specs.Tidy.{mapBytes}
 use Rattle.tidyform.proofs.Parts.{words-grow, length-word, length-no-word}
@@ -13,7 +13,7 @@ use Rattle.tidy.proofs.words_bytes.Statement.{statement}
 use Rattle.tidy.proofs.words_bytes.Tie as tie
 
 abbrev Inv-loop : tie.InvT-loop
-Inv-loop maps bytes₀ word₀ bytes word = (word ≤ mostWords) × (bytes ≡ length (mapBytes word maps)) × (bytes ≤ 6 * word)
+Inv-loop maps bytes₀ word₀ bytes word = (word ≤ mostWords) × (bytes ≡ length (mapBytes word maps)) × (bytes ≤ silenceCommand * word)
 
 abbrev μ-loop : tie.MeasureT-loop
 μ-loop maps bytes₀ word₀ bytes word = mostWords - word

@@ -3,6 +3,7 @@ use mathlib.Core.Path.{refl, sym, _∙_}
 use Prim.Native.Nat.{_+_, _≤_}
 use native.Mathlib.Omega.{arith}
 use lib.ListN.{length, length-set}
+use Rattle.sizes.specs.Sizes.{silenceCommand}
 use Rattle.bigendian.proofs.Numbers.{number-fits}
 use Rattle.tidyform.proofs.Parts.{no-word, some-word, length-word}
 use Rattle.tidy.proofs.Writes.{word-stores}
@@ -11,7 +12,7 @@ use Rattle.tidy.proofs.writer.put_word.Statement.{statement}
 use Rattle.tidy.proofs.writer.put_word.Tie as tie
 
 -- the command's six bytes have room
-room : (c : tie.Else1) → c .before .before .args .at + 6 ≤ length (c .before .before .args .out .now)
+room : (c : tie.Else1) → c .before .before .args .at + silenceCommand ≤ length (c .before .before .args .out .now)
 room c = omega (arith, length-word (c .before .before .args .word) (c .if1 .left))
 
 returns : tie.Need-returns
