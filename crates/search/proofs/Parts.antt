@@ -1,4 +1,4 @@
--- The least of some of the ranks, and how the scan puts four tones' together.
+-- The least of some of the ranks, and how the scan puts eight tones' together.
 -- Assumes nothing.
 use mathlib.Core.Bool.{cond}
 use mathlib.Core.Path.{_≡_, refl, _∙_}
@@ -17,6 +17,10 @@ use Rattle.ranks.specs.Ranks.{noStep, NoneFrom, Among, LeastOf}
 -- the lesser of two, as the code picks it
 abbrev lesserOf : ℕ → ℕ → ℕ
 lesserOf a b = cond (ltb b a) b a
+
+-- the lesser of the ranks of two tones
+abbrev lesserAt : List ℕ → (i j : ℕ) → ℕ
+lesserAt ranks i j = lesserOf (getD ranks i 0) (getD ranks j 0)
 
 -- the least of the ranks from tone m on, below tone n
 pub record Part (ranks : List ℕ) (m n r : ℕ) : Type 0 where
@@ -50,14 +54,20 @@ module _ {ranks : List ℕ} where
       wider : {r : ℕ} → Among k ranks r → Among n ranks r
       wider A = record { tone = A .tone; inside = omega (arith, A .inside); there = A .there }
 
+  -- two tones side by side
+  two : (i j n : ℕ) → j ≡ i + 1 → n ≡ i + 2 → Part ranks i n (lesserAt ranks i j)
+  two i j n e f = both (one i j e) (one j n (omega arith)) (omega arith)
+
   -- a turn of the scan
-  pub four-more : {i r : ℕ} → Part ranks 0 i r
-      → Part ranks 0 (i + 4) (lesserOf r (lesserOf (lesserOf (getD ranks i 0) (getD ranks (i + 1) 0)) (lesserOf (getD ranks (i + 2) 0) (getD ranks (i + 3) 0))))
-  four-more {i} P =
+  pub eight-more : {i r : ℕ} → Part ranks 0 i r
+      → Part ranks 0 (i + 8)
+      (lesserOf r
+      (lesserOf (lesserOf (lesserAt ranks i (i + 1)) (lesserAt ranks (i + 2) (i + 3))) (lesserOf (lesserAt ranks (i + 4) (i + 5)) (lesserAt ranks (i + 6) (i + 7)))))
+  eight-more {i} P =
       both P
       (both
-      (both (one i (i + 1) refl) (one (i + 1) (i + 2) (omega arith)) (omega arith))
-      (both (one (i + 2) (i + 3) (omega arith)) (one (i + 3) (i + 4) (omega arith)) (omega arith))
+      (both (two i (i + 1) (i + 2) refl refl) (two (i + 2) (i + 3) (i + 4) (omega arith) (omega arith)) (omega arith))
+      (both (two (i + 4) (i + 5) (i + 6) (omega arith) (omega arith)) (two (i + 6) (i + 7) (i + 8) (omega arith) (omega arith)) (omega arith))
       (omega arith))
       (omega arith)
 

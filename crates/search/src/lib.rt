@@ -16,7 +16,7 @@ fn lesser(a: u64, b: u64) -> u64
     if b < a { b } else { a }
 }
 
-// The least of the ranks. Four tones at a time: then few of the comparisons wait for one another.
+// The least of the ranks. Eight tones a turn: then few of the comparisons wait for one another.
 pub fn least(count: usize, ranks: &[u64; TONES]) -> u64
     requires { ⌜ count ≤ mostTones ⌝ }
     requires { ⌜ NoneFrom count (now ranks) ⌝ }
@@ -25,10 +25,12 @@ pub fn least(count: usize, ranks: &[u64; TONES]) -> u64
     let mut least: u64 = u64::MAX;
     let mut i: usize = 0;
     while i < count {
-        let two = lesser(ranks[i], ranks[i + 1]);
-        let next_two = lesser(ranks[i + 2], ranks[i + 3]);
-        least = lesser(least, lesser(two, next_two));
-        i += 4;
+        let one = lesser(ranks[i], ranks[i + 1]);
+        let two = lesser(ranks[i + 2], ranks[i + 3]);
+        let three = lesser(ranks[i + 4], ranks[i + 5]);
+        let four = lesser(ranks[i + 6], ranks[i + 7]);
+        least = lesser(least, lesser(lesser(one, two), lesser(three, four)));
+        i += 8;
     }
     least
 }
