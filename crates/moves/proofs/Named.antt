@@ -45,13 +45,13 @@ adds K = record {
 }
 
 -- a step of this size and tone stands at a rank
-record Ranked (at size tone : ℕ) : Type 0 where
+record AtRank (at size tone : ℕ) : Type 0 where
   there : at ≡ rank size tone
   tone-high : tone < mostTones
   size-low : 0 < size
   size-high : size < 2 ^ 39
 
-module _ {at size tone : ℕ} (P : Ranked at size tone) where
+module _ {at size tone : ℕ} (P : AtRank at size tone) where
   tone-at : stepAt at .tone ≡ tone
   tone-at = rw (P .there) (digits-mod size (P .tone-high))
 
@@ -66,7 +66,7 @@ nothing (some i) m = absurd (m i refl)
 -- ---- the earliest free step, which every rule knows
 
 module _ {r : Rule} {T : Tones} {t : Table} {power earliest latest : ℕ} (K : Knows r T t power earliest latest) where
-  free-ranked : (f : ℕ) → earliestFree T t ≡ some f → Ranked earliest (step T f (t ! f)) f
+  free-ranked : (f : ℕ) → earliestFree T t ≡ some f → AtRank earliest (step T f (t ! f)) f
   free-ranked f e =
       let E : Earliest T t f = rw e at (earliestFree-is T (K .rising) t) in
       record {
@@ -99,7 +99,7 @@ module _ {r : Rule} {T : Tones} {t : Table} {power earliest latest : ℕ} (K : K
 -- ---- the latest held step, which re-fitting knows
 
 module _ {T : Tones} {t : Table} {power earliest latest : ℕ} (K : Knows Refit T t power earliest latest) where
-  held-ranked : (h : ℕ) → latestHeld T t ≡ some h → Ranked latest (step T h (t ! h - 1)) h
+  held-ranked : (h : ℕ) → latestHeld T t ≡ some h → AtRank latest (step T h (t ! h - 1)) h
   held-ranked h e =
       let L : Latest T t h (t ! h - 1) = rw e at (latestHeld-is T (K .rising) t (K .within)) in
       let l : t ! h - 1 < T .limit h = omega (arith, L .top, K .within .under h (L .tone)) in
@@ -143,7 +143,7 @@ module _ {T : Tones} {t : Table} {power earliest latest : ℕ} (K : Knows Refit 
     unfolding refitStep refitMove
     keeps budget l = rw (H .found) (go (earliestFree T t) refl)
       where
-        not-before : {f : ℕ} → Ranked earliest (step T f (t ! f)) f → Ranked latest (step T (h .tone) (t ! h .tone - 1)) (h .tone)
+        not-before : {f : ℕ} → AtRank earliest (step T f (t ! f)) f → AtRank latest (step T (h .tone) (t ! h .tone - 1)) (h .tone)
             → ¬ Before T f (t ! f) (h .tone) (t ! h .tone - 1)
         not-before A L b = omega (arith, A, L, before-rank T (A .tone-high) (L .tone-high) b)
 

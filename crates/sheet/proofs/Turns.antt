@@ -53,8 +53,8 @@ pub record Going (s places maps : List ℕ) (h : Header) (at stage : ℕ) : Type
   pub same : length s ≤ longestSheet → readFrom today most s at stage line ≡ reading s
 
 -- what reading the commands answers and leaves; where the sheet is refused, nothing is said of the arrays
-abbrev pub Ended : List ℕ → Read → (places maps : List ℕ) → Type 0
-Ended s r places maps = (r ≡ answerOf (reading s)) × ((l : Line) → reading s ≡ accepted l → Indexes s places maps l)
+abbrev pub ReadingEnds : List ℕ → Read → (places maps : List ℕ) → Type 0
+ReadingEnds s r places maps = (r ≡ answerOf (reading s)) × ((l : Line) → reading s ≡ accepted l → Indexes s places maps l)
 
 sized-bare : (h : Header) → Sized (bareLine h)
 sized-bare h = record { entries-sized = length-replicate (h .size) undescribed; maps-sized = length-replicate {A = ℕ} (wordsOf (h .size)) 0 }
@@ -114,11 +114,11 @@ module _ {s places maps : List ℕ} {h : Header} {at stage : ℕ} (g : Going s p
           simp (matches, lt-ltb longestSheet (length s) long)
 
   -- the reading ends with this command
-  ends : (m : Meaning) → afterDecoded d s at stage (g .line) ≡ stop m → ((l : Line) → m ≡ accepted l → Indexes s places maps l) → Ended s (answerOf m) places maps
+  ends : (m : Meaning) → afterDecoded d s at stage (g .line) ≡ stop m → ((l : Line) → m ≡ accepted l → Indexes s places maps l) → ReadingEnds s (answerOf m) places maps
   ends m o x = (ap answerOf (after (stop m) o), λ l q. x l (after (stop m) o ∙ q))
 
   -- a refusal indexes no line
-  refuses : (q : Refusal) → afterDecoded d s at stage (g .line) ≡ stop (refused q) → Ended s (answerOf (refused q)) places maps
+  refuses : (q : Refusal) → afterDecoded d s at stage (g .line) ≡ stop (refused q) → ReadingEnds s (answerOf (refused q)) places maps
   refuses q o = ends (refused q) o (λ l f. never l f)
     where
       never : (l : Line) → refused q ≡ accepted l → Indexes s places maps l
@@ -126,13 +126,13 @@ module _ {s places maps : List ℕ} {h : Header} {at stage : ℕ} (g : Going s p
           let z : _≡_ {A = ℕ} 0 1 = cc in
           absurd (omega arith)
 
-  pub on-refused : (q : Refusal) → d .command ≡ Refused q → Ended s (answerOf (refused q)) places maps
+  pub on-refused : (q : Refusal) → d .command ≡ Refused q → ReadingEnds s (answerOf (refused q)) places maps
   on-refused q f = refuses q (simp f)
 
-  pub on-more : d .command ≡ End → d .next < length s → Ended s (answerOf (refused (BytesAfterEnd (d .next)))) places maps
+  pub on-more : d .command ≡ End → d .next < length s → ReadingEnds s (answerOf (refused (BytesAfterEnd (d .next)))) places maps
   on-more f l = refuses (BytesAfterEnd (d .next)) (simp (f, lt-ltb _ _ l))
 
-  pub on-end : d .command ≡ End → length s ≤ d .next → Ended s (read.Accepted h) places maps
+  pub on-end : d .command ≡ End → length s ≤ d .next → ReadingEnds s (read.Accepted h) places maps
   on-end f l = rw (sym (g .header-is)) (ends (accepted (g .line)) (simp (f, le-ltb _ _ l)) (λ m q. same m q))
     where
       same : (m : Line) → accepted (g .line) ≡ accepted m → Indexes s places maps m

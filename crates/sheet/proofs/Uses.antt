@@ -17,7 +17,7 @@ use Rattle.sheet.specs.declared.Read.{Read}
 use Rattle.sheet.specs.declared.Read.the-variants as read
 use Rattle.sheet.specs.Reading.{Meaning, accepted, refused, headerOf, reading}
 use Rattle.sheet.specs.Index.{Indexes, Leaves, ReadsAs, Indexed, answerOf}
-use Rattle.sheet.proofs.Turns.{Ended}
+use Rattle.sheet.proofs.Turns.{ReadingEnds}
 use Rattle.sheet.proofs.Sound.{Bytes, Sound, accepted-sound}
 
 -- a tone is described if its place is not 0
@@ -28,7 +28,7 @@ described-at s (suc p) = sym (lt-ltb 0 (suc p) (omega arith))
 module _ {s places maps : List ℕ} where
   -- ---- what reading answers and leaves
 
-  pub leaves-accepted : {r : Read} {h : Header} → Ended s r places maps → r ≡ read.Accepted h → ReadsAs s (read.Accepted h) places maps (reading s)
+  pub leaves-accepted : {r : Read} {h : Header} → ReadingEnds s r places maps → r ≡ read.Accepted h → ReadsAs s (read.Accepted h) places maps (reading s)
   leaves-accepted {r} {h} x e = by (reading s) (sym e ∙ x .0) (x .1)
     where
       by : (m : Meaning) → read.Accepted h ≡ answerOf m → ((l : Line) → m ≡ accepted l → Indexes s places maps l) → ReadsAs s (read.Accepted h) places maps m
@@ -37,7 +37,7 @@ module _ {s places maps : List ℕ} where
           let z : _≡_ {A = ℕ} 0 1 = cc in
           absurd (omega arith)
 
-  pub leaves-refused : {r : Read} {q : Refusal} → Ended s r places maps → r ≡ read.Refused q
+  pub leaves-refused : {r : Read} {q : Refusal} → ReadingEnds s r places maps → r ≡ read.Refused q
       → ReadsAs s (read.Refused q) (replicate mostTones 0) (replicate mostWords 0) (reading s)
   leaves-refused {r} {q} x e = by (reading s) (sym e ∙ x .0)
     where

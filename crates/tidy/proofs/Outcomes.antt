@@ -30,22 +30,22 @@ same-numbers (accepted l) room = both (ltb room (length (tidy l)))
     both false = refl
 
 -- the answer, its numbers and the buffer
-abbrev pub Ended : Meaning → (out after : List ℕ) → Tidied → Type 0
-Ended x out after r = (r ≡ tidying x (length out)) × ((tidyNumbers r ≡ tidyOutcome x (length out)) × (after ≡ afterTidying x out))
+abbrev pub TidyingEnds : Meaning → (out after : List ℕ) → Tidied → Type 0
+TidyingEnds x out after r = (r ≡ tidying x (length out)) × ((tidyNumbers r ≡ tidyOutcome x (length out)) × (after ≡ afterTidying x out))
 
-ended : (x : Meaning) (out : List ℕ) {after : List ℕ} {r : Tidied} → r ≡ tidying x (length out) → after ≡ afterTidying x out → Ended x out after r
+ended : (x : Meaning) (out : List ℕ) {after : List ℕ} {r : Tidied} → r ≡ tidying x (length out) → after ≡ afterTidying x out → TidyingEnds x out after r
 ended x out e f = (e, (ap tidyNumbers e ∙ same-numbers x (length out), f))
 
-pub turned-down : {x : Meaning} (r : Refusal) (out : List ℕ) → x ≡ refused r → Ended x out out (Refused r)
+pub turned-down : {x : Meaning} (r : Refusal) (out : List ℕ) → x ≡ refused r → TidyingEnds x out out (Refused r)
 turned-down {x} r out e = ended x out (simp e) (simp e)
 
 module _ {x : Meaning} {l : Line} (e : x ≡ accepted l) (out : List ℕ) {n : ℕ} (f : n ≡ length (tidy l)) where
-  pub too-small : length out < n → Ended x out out (Refused DestinationTooSmall)
+  pub too-small : length out < n → TidyingEnds x out out (Refused DestinationTooSmall)
   too-small h =
       let t = lt-ltb (length out) (length (tidy l)) (omega arith) in
       ended x out (simp (e, t)) (simp (e, t))
 
-  pub written : n ≤ length out → Ended x out (sets out 0 (tidy l)) (Length n)
+  pub written : n ≤ length out → TidyingEnds x out (sets out 0 (tidy l)) (Length n)
   written h =
       let t = le-ltb (length out) (length (tidy l)) (omega arith) in
       ended x out (simp (e, t, f)) (simp (e, t) (from-start (tidy l) out (omega arith)))
