@@ -14,7 +14,7 @@ use Rattle.line.specs.declared.Steps.{Steps}
 use Rattle.line.specs.Tone.{Gap}
 use Rattle.line.specs.Line.{undescribed, described, Line, entryOf, EntryInRange, noSteps, entrySteps, stepsAt}
 use Rattle.line.specs.Arrays.{arrays, ArraysOf}
-use Rattle.command.specs.declared.Header.{Header}
+use Rattle.rows.specs.declared.Header.{Header}
 use Rattle.places.specs.Places.{toneAt, entryAt}
 use Rattle.sheet.specs.Index.{Indexes, Indexed}
 use Rattle.sheet.specs.Reading.{reading}

@@ -7,7 +7,7 @@ use Prim.Native.Nat.{ℕ}
 use Rattle.line.specs.Line.{Line, LineInRange}
 use Rattle.line.specs.Arrays.{Arrays, ArraysOf}
 use Rattle.refusals.specs.declared.Refusal.{Refusal}
-use Rattle.command.specs.declared.Header.{Header}
+use Rattle.rows.specs.declared.Header.{Header}
 use Rattle.sheet.specs.declared.Read.the-variants as read
 use Rattle.sheet.specs.Reading.{Meaning, accepted, refused, headerOf, reading}
 use Rattle.sheet.specs.Index.{Indexed}

@@ -10,9 +10,9 @@ use borrow.Author.Tests.{le-ltb}
 use lib.Dec.{eqb}
 use Rattle.bigendian.specs.Number.{number}
 use Rattle.refusals.specs.declared.Refusal.{Refusal}
-use Rattle.command.specs.declared.Header.{Header}
-use Rattle.command.specs.declared.Command.{Command}
-use Rattle.command.specs.Rows.{Seen, Operand, Row, within, silence, rowsOf, width, withCode, judged, operandsFrom, rowAt}
+use Rattle.rows.specs.declared.Header.{Header}
+use Rattle.rows.specs.declared.Command.{Command}
+use Rattle.rows.specs.Rows.{Seen, Operand, Row, within, silence, rowsOf, width, withCode, judged, operandsFrom, rowAt}
 use Rattle.command.specs.Format.{Format, formatOf, isRefused, Covers, Covered, Within}
 use Rattle.command.proofs.Walk.{in-within}
 

@@ -14,17 +14,18 @@ use lib.ListN.{length, getD}
 use Rattle.sizes.specs.Sizes.{mostWords, longestSheet, toneCommand}
 use Rattle.lists.proofs.Tests.{by-test}
 use Rattle.bigendian.specs.Number.{number}
+use Rattle.bigendian.proofs.Numbers.{number-one}
 use Rattle.silence.specs.Map.{namesBeyond}
 use Rattle.line.specs.Line.{Entry, isDescribed}
-use Rattle.command.specs.declared.Header.{Header}
-use Rattle.command.specs.declared.Command.{Command}
-use Rattle.command.specs.declared.Command.the-variants.{End, Refused, Head, Describe, Silence}
+use Rattle.rows.specs.declared.Header.{Header}
+use Rattle.rows.specs.declared.Command.{Command}
+use Rattle.rows.specs.declared.Command.the-variants.{End, Refused, Head, Describe, Silence}
 use Rattle.command.specs.declared.Decoded.{Decoded}
-use Rattle.command.specs.Rows.{Row, tone, width}
+use Rattle.rows.specs.Rows.{Row, tone, width}
 use Rattle.places.specs.Places.{addressed}
 use Rattle.command.specs.Format.{today, isTooLong, commandAt}
-use Rattle.command.specs.Codes.{silenceRow}
-use Rattle.command.proofs.Walk.{Each, number-one, passes, in-within, Does, by-rows}
+use Rattle.rows.specs.Codes.{silenceRow}
+use Rattle.command.proofs.Walk.{Each, passes, in-within, Does, by-rows}
 
 -- its bytes are there, in a sheet that is not too long
 pub record There (length at next : ℕ) : Type 0 where

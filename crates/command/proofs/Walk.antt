@@ -6,7 +6,6 @@ use mathlib.Core.Option.{Option, none, some}
 use mathlib.Core.Path.{_≡_, refl}
 use Prim.Native.Nat.{ℕ, _+_, _≤_}
 use native.Mathlib.Decide.{ℕ-discrete}
-use native.Mathlib.Nat.{add-zero}
 use native.Mathlib.Omega.{arith}
 use borrow.Author.Tests.{eq-eqb, ne-eqb, ltb-false}
 use lib.Dec.{ltb, leb}
@@ -15,11 +14,11 @@ use Rattle.lists.proofs.Tests.{by-test}
 use Rattle.bigendian.specs.Number.{number}
 use Rattle.line.specs.Line.{Entry}
 use Rattle.refusals.specs.declared.Refusal.{Refusal}
-use Rattle.command.specs.declared.Header.{Header}
-use Rattle.command.specs.declared.Command.{Command}
-use Rattle.command.specs.declared.Command.the-variants.{Refused}
+use Rattle.rows.specs.declared.Header.{Header}
+use Rattle.rows.specs.declared.Command.{Command}
+use Rattle.rows.specs.declared.Command.the-variants.{Refused}
 use Rattle.command.specs.declared.Decoded.{Decoded}
-use Rattle.command.specs.Rows.{Seen, Operand, Row, width, withCode, judged, operandsFrom, rowAt}
+use Rattle.rows.specs.Rows.{Seen, Operand, Row, width, withCode, judged, operandsFrom, rowAt}
 use Rattle.command.specs.Format.{Format, decodedRow, decoded}
 
 -- ---- the row that a command byte finds
@@ -43,11 +42,6 @@ found P code (r ∷ rs) each = by (found P code rs (each .1)) (ℕ-discrete code
     by later (no ne) = rw (ne-eqb code (r .code) ne) later
 
 -- ---- its operands
-
--- a number of one byte is that byte
-pub number-one : (s : List ℕ) (at : ℕ) → number s at 1 ≡ getD s at 0
-unfolding number
-number-one s at = simp add-zero (omega arith)
 
 -- what the first operand of a command sees
 abbrev pub seenAt : Header → (known : Entry) → Seen

@@ -10,11 +10,11 @@ use lib.ListN.{length, getD}
 use Rattle.sizes.specs.Sizes.{mostTones, mostWords, longestSheet}
 use Rattle.line.specs.Line.{Entry}
 use Rattle.refusals.specs.declared.Refusal.the-variants.{SheetTooLong, SheetEnds, CommandNotAllowed}
-use Rattle.command.specs.declared.Header.{Header}
-use Rattle.command.specs.declared.Command.{Command}
-use Rattle.command.specs.declared.Command.the-variants.{End, Refused, Head, Describe, Silence}
+use Rattle.rows.specs.declared.Header.{Header}
+use Rattle.rows.specs.declared.Command.{Command}
+use Rattle.rows.specs.declared.Command.the-variants.{End, Refused, Head, Describe, Silence}
 use Rattle.command.specs.declared.Decoded.{Decoded}
-use Rattle.command.specs.Rows.{Row, width, rowsOf, withCode, rowAt}
+use Rattle.rows.specs.Rows.{Row, width, rowsOf, withCode, rowAt}
 
 -- The most tones, the silence words, the longest sheet, and the commands allowed after so many of the first three.
 pub record Format : Type 0 where
@@ -30,6 +30,11 @@ formatOf tones words bytes = record { tones = tones; words = words; bytes = byte
 -- document 01's format
 abbrev pub today : Format
 today = formatOf mostTones mostWords longestSheet
+
+-- whether a command byte has found a row
+abbrev pub isRow : Option Row → Bool
+isRow none = false
+isRow (some r) = true
 
 -- refusal 1: 'The sheet has more than 4,096 bytes'
 abbrev pub isTooLong : Format → List ℕ → Bool

@@ -1,44 +1,13 @@
-// The commands of a line sheet, decoded one by one: document 01, 'The line sheet' and 'Why a sheet is turned down'.
+// The command at a place of a line sheet: document 01, 'The line sheet' and 'Why a sheet is turned down'.
 ghost use mathlib.Core.Path.{_≡_};
-ghost use Prim.Native.Nat.{_+_, _≤_};
-ghost use lib.ListN.{length};
-ghost use Rattle.sizes.specs.Sizes.{longestSheet, toneCommand, silenceCommand};
 ghost use Rattle.lists.specs.Lent.{before};
-ghost use Rattle.line.specs.Tone.{mostCap};
-ghost use Rattle.line.specs.Line.{Entry};
-ghost use Rattle.refusals.specs.declared.Refusal.the-variants.{OperandOutOfRange};
 ghost use Rattle.places.specs.Places.{entryAt};
-ghost use Rattle.command.specs.declared.Command.the-variants.{Refused};
-ghost use Rattle.command.specs.Rows.{rowAt, width, bytesOf, withCode};
-ghost use Rattle.command.specs.Format.{today, commandAt};
-ghost use Rattle.command.specs.Codes.{rowOf, toneRow, silenceRow};
-use line::GAP_UNIT;
+ghost use Rattle.rows.specs.Rows.{withCode};
+ghost use Rattle.command.specs.Format.{isRow, today, commandAt};
 use refusals::Refusal;
-use sizes::MOST_POWER;
-use sizes::PAIR_CAP;
+use rows::Command;
+use rows::Header;
 use sizes::SHEET_BYTES;
-use sizes::SILENCE_COMMAND;
-use sizes::SINGLE_CAP;
-use sizes::TONE_COMMAND;
-use sizes::TONES;
-use sizes::WORDS;
-
-// What the first three commands give: N, the gap and the budget; 0 for what is not given yet.
-pub struct Header {
-    pub size: u16,
-    pub gap: u16,
-    pub budget: u64,
-}
-
-// What a command does, or why it is refused: it ends the sheet, makes a new header, describes a tone or adds to one, or silences the
-// tones of a map. A later command has one of these effects too.
-pub enum Command {
-    End,
-    Refused(Refusal),
-    Head(Header),
-    Describe(u16),
-    Silence(u8, u32),
-}
 
 // A command, and the place after it.
 pub struct Decoded {
@@ -46,148 +15,23 @@ pub struct Decoded {
     pub next: usize,
 }
 
-// Refusal 4, at the place of an operand.
-fn out_of_range(place: usize) -> Command
-    requires { ⌜ place ≤ longestSheet ⌝ }
-    ensures { λ r. ⌜ r ≡ Refused (OperandOutOfRange place) ⌝ }
-{
-    Command::Refused(Refusal::OperandOutOfRange(place as u16))
-}
-
-// One of the first three commands, all of whose bytes are there.
-fn header_command(s: &[u8], at: usize, code: u8, header: Header) -> Command
-    requires { ⌜ 1 ≤ code ⌝ }
-    requires { ⌜ code ≤ 3 ⌝ }
-    requires { ⌜ at + 1 + width (rowOf code .operands) ≤ length (now s) ⌝ }
-    requires { ⌜ length (now s) ≤ longestSheet ⌝ }
-    ensures { λ r. ⌜ ((known : Entry) → r ≡ rowAt header known (before s) at (rowOf code)) ⌝ }
-{
-    if code == 3 {
-        let budget = bigendian::number_at(s, at + 1, 8);
-        if MOST_POWER < budget {
-            return out_of_range(at + 1);
-        }
-        return Command::Head(Header {
-            size: header.size,
-            gap: header.gap,
-            budget: budget,
-        });
-    }
-    let n = bigendian::number_at(s, at + 1, 2);
-    if code == 2 {
-        if n < GAP_UNIT {
-            return out_of_range(at + 1);
-        }
-        return Command::Head(Header {
-            size: header.size,
-            gap: n as u16,
-            budget: header.budget,
-        });
-    }
-    if n < 1 {
-        return out_of_range(at + 1);
-    }
-    if (TONES as u64) < n {
-        return out_of_range(at + 1);
-    }
-    Command::Head(Header {
-        size: n as u16,
-        gap: header.gap,
-        budget: header.budget,
-    })
-}
-
-// The largest cap of a tone of either kind.
-fn most_cap(is_single: bool) -> u8
-    ensures { λ r. ⌜ r ≡ mostCap «is_single» ⌝ }
-{
-    if is_single { SINGLE_CAP } else { PAIR_CAP }
-}
-
-// A tone command of either kind, all of whose bytes are there. `place` is where its tone is described already, or 0.
-fn tone_command(s: &[u8], at: usize, header: Header, place: u16, is_single: bool) -> Command
-    requires { ⌜ at + toneCommand ≤ length (now s) ⌝ }
-    requires { ⌜ length (now s) ≤ longestSheet ⌝ }
-    ensures { λ r. ⌜ r ≡ rowAt header (entryAt (before s) place) (before s) at (toneRow «is_single») ⌝ }
-{
-    let tone = s[at + 1] as u16;
-    if header.size <= tone {
-        return Command::Refused(Refusal::ToneBeyondLine((at + 1) as u16));
-    }
-    if 0 < place {
-        return Command::Refused(Refusal::ToneRepeated((at + 1) as u16));
-    }
-    if bigendian::number_at(s, at + 2, 2) < 1 {
-        return out_of_range(at + 2);
-    }
-    if bigendian::number_at(s, at + 4, 2) < 1 {
-        return out_of_range(at + 4);
-    }
-    let most_cap = most_cap(is_single);
-    if most_cap < s[at + 6] {
-        return out_of_range(at + 6);
-    }
-    if MOST_POWER < bigendian::number_at(s, at + 7, 8) {
-        return out_of_range(at + 7);
-    }
-    Command::Describe(tone)
-}
-
-// The silence command, all of whose bytes are there.
-fn silence_command(s: &[u8], at: usize, header: Header) -> Command
-    requires { ⌜ at + silenceCommand ≤ length (now s) ⌝ }
-    requires { ⌜ length (now s) ≤ longestSheet ⌝ }
-    ensures { λ r. ⌜ ((known : Entry) → r ≡ rowAt header known (before s) at silenceRow) ⌝ }
-{
-    let word = s[at + 1];
-    if WORDS <= word as usize {
-        return out_of_range(at + 1);
-    }
-    let map = bigendian::number_at(s, at + 2, 4) as u32;
-    if silence::names_beyond(header.size, word, map) {
-        return Command::Refused(Refusal::ToneBeyondLine((at + 2) as u16));
-    }
-    Command::Silence(word, map)
-}
-
-// How many bytes a command has in all, and 0 where its byte is not allowed after so many of the first three.
-fn command_bytes(stage: u8, code: u8) -> usize
-    ensures { λ r. ⌜ r ≡ bytesOf (withCode (today .rows stage) code) ⌝ }
+// Whether a command byte is allowed after so many of the first three commands.
+fn is_allowed(stage: u8, code: u8) -> bool
+    ensures { λ r. ⌜ r ≡ isRow (withCode (today .rows stage) code) ⌝ }
 {
     if stage == 0 {
-        return if code == 1 { 3 } else { 0 };
+        return code == 1;
     }
     if stage == 1 {
-        return if code == 2 { 3 } else { 0 };
+        return code == 2;
     }
     if stage == 2 {
-        return if code == 3 { 9 } else { 0 };
+        return code == 3;
     }
     match code {
-        4 | 5 => TONE_COMMAND,
-        6 => SILENCE_COMMAND,
-        7 => 1,
-        _ => 0,
+        4..=7 => true,
+        _ => false,
     }
-}
-
-// What a command does, all of whose bytes are there.
-fn operands(s: &[u8], at: usize, code: u8, header: Header, place: u16) -> Command
-    requires { ⌜ 1 ≤ code ⌝ }
-    requires { ⌜ at + 1 + width (rowOf code .operands) ≤ length (now s) ⌝ }
-    requires { ⌜ length (now s) ≤ longestSheet ⌝ }
-    ensures { λ r. ⌜ r ≡ rowAt header (entryAt (before s) place) (before s) at (rowOf code) ⌝ }
-{
-    if code < 4 {
-        return header_command(s, at, code, header);
-    }
-    if code < 6 {
-        return tone_command(s, at, header, place, code == 5);
-    }
-    if code == 6 {
-        return silence_command(s, at, header);
-    }
-    Command::End
 }
 
 // The command at a place, and the place after it, with the header so far. `place` is where the tone that the command addresses is
@@ -210,18 +54,18 @@ pub fn decode(s: &[u8], at: usize, stage: u8, header: Header, place: u16) -> Dec
         return ends;
     }
     let code = s[at];
-    let bytes = command_bytes(stage, code);
-    if bytes == 0 {
+    if !is_allowed(stage, code) {
         return Decoded {
             command: Command::Refused(Refusal::CommandNotAllowed(at as u16)),
             next: at,
         };
     }
+    let bytes = rows::bytes_of(code);
     if length - at < bytes {
         return ends;
     }
     Decoded {
-        command: operands(s, at, code, header, place),
+        command: rows::row_at(s, at, code, header, place),
         next: at + bytes,
     }
 }

@@ -3,7 +3,9 @@ ghost use mathlib.Core.Path.{_≡_};
 ghost use Prim.Native.Nat.{_*_, _^_, _≤_, _<_};
 ghost use Rattle.line.specs.Line.{stepsOf};
 ghost use Rattle.line.specs.Arrays.{powerIn};
-ghost use Rattle.line.specs.Tone.{carried, doublings, InRange, Gap, Cost, cost, power, limit};
+ghost use Rattle.line.specs.Tone.{mostCap, carried, doublings, InRange, Gap, Cost, cost, power, limit};
+use sizes::PAIR_CAP;
+use sizes::SINGLE_CAP;
 
 // The unit of the gap: a gap of 256 is none.
 pub const GAP_UNIT: u64 = 256;
@@ -32,6 +34,13 @@ pub struct Steps {
     pub limit: u8,
     pub cost: u32,
     pub doublings: u8,
+}
+
+// The largest cap of a tone of either kind.
+pub fn most_cap(is_single: bool) -> u8
+    ensures { λ r. ⌜ r ≡ mostCap «is_single» ⌝ }
+{
+    if is_single { SINGLE_CAP } else { PAIR_CAP }
 }
 
 // What the tone carries, whichever its kind.

@@ -11,7 +11,7 @@ use Rattle.line.proofs.Loads.{line-rising, no-bits-fit}
 use Rattle.line.proofs.Masks.{limits-high}
 use Rattle.line.proofs.Arrays.{line-arrays-in-range, line-describes}
 use Rattle.refusals.specs.declared.Refusal.{Refusal}
-use Rattle.command.specs.declared.Header.{Header}
+use Rattle.rows.specs.declared.Header.{Header}
 use Rattle.loadings.specs.Loads.{Loading, turned-down, Loadable, SomeTones, ForTones}
 use Rattle.loadings.specs.Refits.{refitUpTo, refitOn, stepOn}
 use Rattle.loadings.proofs.UpTo.{whole-refit, single-step}

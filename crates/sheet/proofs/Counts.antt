@@ -11,7 +11,7 @@ use Rattle.sizes.specs.Sizes.{mostTones, wordTones}
 use Rattle.silence.specs.Map.{bit, silenced, count}
 use Rattle.silence.proofs.Maps.{count-same, count-past}
 use Rattle.line.specs.Line.{Line}
-use Rattle.command.specs.declared.Header.{Header}
+use Rattle.rows.specs.declared.Header.{Header}
 use Rattle.sheet.specs.declared.Checked.{Checked}
 use Rattle.sheet.specs.declared.Checked.the-variants as checked
 use Rattle.sheet.specs.Reading.{Meaning, accepted, refused, reading}

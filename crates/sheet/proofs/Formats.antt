@@ -12,11 +12,11 @@ use lib.ListN.{length, getD}
 use Rattle.lists.proofs.Tests.{by-test}
 use Rattle.line.specs.Line.{Line, Entry, entryOf}
 use Rattle.refusals.specs.declared.Refusal.{Refusal}
-use Rattle.command.specs.declared.Header.{Header}
-use Rattle.command.specs.declared.Command.{Command}
-use Rattle.command.specs.declared.Command.the-variants.{End, Refused, Head, Describe, Silence}
+use Rattle.rows.specs.declared.Header.{Header}
+use Rattle.rows.specs.declared.Command.{Command}
+use Rattle.rows.specs.declared.Command.the-variants.{End, Refused, Head, Describe, Silence}
 use Rattle.command.specs.declared.Decoded.{Decoded}
-use Rattle.command.specs.Rows.{Row, width, withCode}
+use Rattle.rows.specs.Rows.{Row, width, withCode}
 use Rattle.places.specs.Places.{addressed}
 use Rattle.command.specs.Format.{Format, isTooLong, decodedRow, decoded, isRefused, Covered, Within}
 use Rattle.sheet.specs.Reading.{accepted, refused, headerOf, emptyLine, afterCommand, commandIn, readOn, readFrom, readingIn}

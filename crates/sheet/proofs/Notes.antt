@@ -15,8 +15,8 @@ use Rattle.lists.proofs.Stores.{all-same, after-store}
 use Rattle.silence.specs.Map.{namesBeyond, joined}
 use Rattle.silence.proofs.Maps.{beyond-zero}
 use Rattle.line.specs.Line.{undescribed, described, Line}
-use Rattle.command.specs.declared.Header.{Header}
-use Rattle.command.specs.declared.Command.the-variants.{Describe, Silence}
+use Rattle.rows.specs.declared.Header.{Header}
+use Rattle.rows.specs.declared.Command.the-variants.{Describe, Silence}
 use Rattle.places.specs.Places.{toneAt, entryAt}
 use Rattle.sheet.specs.Reading.{bareLine, effect}
 use Rattle.sheet.specs.Index.{ToneStands, Indexes}

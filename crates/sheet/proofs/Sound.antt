@@ -20,19 +20,19 @@ use Rattle.sizes.specs.Sizes.{mostTones, mostWords, wordTones, wordsOf, longest
 use Rattle.lists.proofs.Tests.{by-test}
 use Rattle.lists.proofs.Stores.{all-same, after-store}
 use Rattle.bigendian.specs.Number.{number, numberAt}
-use Rattle.bigendian.proofs.Numbers.{number-lt, number-there}
+use Rattle.bigendian.proofs.Numbers.{number-one, number-lt, number-there}
 use Rattle.silence.specs.Map.{bit, namesBeyond}
 use Rattle.silence.proofs.Maps.{beyond-clear, joined-bit, joined-lt}
 use Rattle.line.specs.declared.Numbers.{Numbers}
 use Rattle.line.specs.Tone.{kindOf, mostCap, InRange, Gap, gapUnit}
 use Rattle.line.specs.Line.{undescribed, EntryInRange, Line, LineInRange}
 use Rattle.refusals.specs.declared.Refusal.the-variants.{SheetTooLong}
-use Rattle.command.specs.declared.Header.{Header}
-use Rattle.command.specs.declared.Command.the-variants.{Describe, Silence}
+use Rattle.rows.specs.declared.Header.{Header}
+use Rattle.rows.specs.declared.Command.the-variants.{Describe, Silence}
 use Rattle.places.specs.Places.{toneAt}
-use Rattle.command.specs.Rows.{tone, silence}
+use Rattle.rows.specs.Rows.{tone, silence}
 use Rattle.command.specs.Format.{today}
-use Rattle.command.proofs.Walk.{Each, number-one, passes, in-within}
+use Rattle.command.proofs.Walk.{Each, passes, in-within}
 use Rattle.sheet.specs.Reading.{accepted, refused, bareLine, effect, reading, readingIn}
 use Rattle.sheet.proofs.Walk.{Leads, accepted-by}
 

@@ -19,9 +19,9 @@ use Rattle.silence.specs.Map.{joined}
 use Rattle.line.specs.Line.{undescribed, Line, entryOf}
 use Rattle.refusals.specs.declared.Refusal.{Refusal}
 use Rattle.refusals.specs.declared.Refusal.the-variants.{BytesAfterEnd}
-use Rattle.command.specs.declared.Header.{Header}
-use Rattle.command.specs.declared.Command.{Command}
-use Rattle.command.specs.declared.Command.the-variants.{End, Refused, Head, Describe, Silence}
+use Rattle.rows.specs.declared.Header.{Header}
+use Rattle.rows.specs.declared.Command.{Command}
+use Rattle.rows.specs.declared.Command.the-variants.{End, Refused, Head, Describe, Silence}
 use Rattle.command.specs.declared.Decoded.{Decoded}
 use Rattle.places.specs.Places.{addressed, entryAt}
 use Rattle.command.specs.Format.{today, commandAt}

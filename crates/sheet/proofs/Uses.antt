@@ -11,7 +11,7 @@ use Rattle.sizes.specs.Sizes.{mostTones, mostWords, wordTones}
 use Rattle.silence.specs.Map.{bit, silenced}
 use Rattle.line.specs.Line.{Line, LineInRange, isDescribed, entryOf}
 use Rattle.refusals.specs.declared.Refusal.{Refusal}
-use Rattle.command.specs.declared.Header.{Header}
+use Rattle.rows.specs.declared.Header.{Header}
 use Rattle.places.specs.Places.{entryAt}
 use Rattle.sheet.specs.declared.Read.{Read}
 use Rattle.sheet.specs.declared.Read.the-variants as read

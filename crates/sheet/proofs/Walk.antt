@@ -10,9 +10,9 @@ use lib.Dec.{ltb}
 use lib.ListN.{length, getD}
 use Rattle.lists.proofs.Tests.{by-test}
 use Rattle.line.specs.Line.{Line, entryOf}
-use Rattle.command.specs.declared.Command.{Command}
-use Rattle.command.specs.declared.Command.the-variants.{End, Refused, Head, Describe, Silence}
-use Rattle.command.specs.Rows.{Row, width}
+use Rattle.rows.specs.declared.Command.{Command}
+use Rattle.rows.specs.declared.Command.the-variants.{End, Refused, Head, Describe, Silence}
+use Rattle.rows.specs.Rows.{Row, width}
 use Rattle.places.specs.Places.{addressed}
 use Rattle.command.specs.Format.{Format, isTooLong}
 use Rattle.command.proofs.Walk.{seenAt, Passed, values, Each, by-rows}

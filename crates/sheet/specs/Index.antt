@@ -8,7 +8,7 @@ use Prim.Native.Nat.{ℕ, _+_, _≤_, _<_}
 use lib.ListN.{length, getD, replicate}
 use Rattle.sizes.specs.Sizes.{mostTones, mostWords, toneCommand}
 use Rattle.line.specs.Line.{Line, entryOf}
-use Rattle.command.specs.declared.Header.{Header}
+use Rattle.rows.specs.declared.Header.{Header}
 use Rattle.places.specs.Places.{entryAt}
 use Rattle.sheet.specs.declared.Read.{Read}
 use Rattle.sheet.specs.declared.Read.the-variants as read

@@ -10,9 +10,9 @@ use Rattle.silence.specs.Map.{joined}
 use Rattle.line.specs.Line.{undescribed, described, Line, entryOf}
 use Rattle.refusals.specs.declared.Refusal.{Refusal}
 use Rattle.refusals.specs.declared.Refusal.the-variants.{SheetTooLong, SheetEnds, BytesAfterEnd}
-use Rattle.command.specs.declared.Header.{Header}
-use Rattle.command.specs.declared.Command.{Command}
-use Rattle.command.specs.declared.Command.the-variants.{End, Refused, Head, Describe, Silence}
+use Rattle.rows.specs.declared.Header.{Header}
+use Rattle.rows.specs.declared.Command.{Command}
+use Rattle.rows.specs.declared.Command.the-variants.{End, Refused, Head, Describe, Silence}
 use Rattle.command.specs.declared.Decoded.{Decoded}
 use Rattle.places.specs.Places.{addressed, toneAt}
 use Rattle.command.specs.Format.{Format, today, isTooLong, decoded}

@@ -11,9 +11,9 @@ ghost use Rattle.line.specs.Line.{Line};
 ghost use Rattle.sheet.specs.Check.{checking, checkNumbers, checkOutcome};
 ghost use Rattle.sheet.specs.Index.{Indexes, ReadsAs, answerOf};
 ghost use Rattle.sheet.specs.Reading.{accepted, reading};
-use command::Command;
-use command::Header;
 use refusals::Refusal;
+use rows::Command;
+use rows::Header;
 use sizes::TONES;
 use sizes::WORDS;
 

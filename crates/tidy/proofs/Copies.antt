@@ -12,14 +12,13 @@ use lib.Dec.{eqb}
 use lib.ListN.{length, getD, length-append, List·getD-eq-default}
 use Rattle.sizes.specs.Sizes.{mostWords, wordsOf, toneCommand}
 use Rattle.bigendian.specs.Number.{number, bytes}
-use Rattle.bigendian.proofs.Numbers.{number-there}
+use Rattle.bigendian.proofs.Numbers.{number-one, number-there}
 use Rattle.bigendian.proofs.Stores.{Growing}
 use Rattle.line.specs.declared.Numbers.{Numbers}
 use Rattle.line.specs.Tone.{carriedBy, kindOf, isSingle}
 use Rattle.line.specs.Line.{described, Line}
-use Rattle.command.specs.Codes.{toneRow}
+use Rattle.rows.specs.Codes.{toneRow}
 use Rattle.places.specs.Places.{toneAt, entryAt}
-use Rattle.command.proofs.Walk.{number-one}
 use Rattle.sheet.specs.Index.{ToneStands, Indexes}
 use Rattle.sheet.proofs.Sound.{Bytes, Sound}
 use Rattle.tidyform.specs.Tidy.{entryBytes, toneBytes, mapBytes}

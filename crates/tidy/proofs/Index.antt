@@ -9,7 +9,7 @@ use lib.Seq.{sets}
 use Rattle.sizes.specs.Sizes.{mostWords, wordsOf, headerBytes}
 use Rattle.bigendian.specs.Number.{bytes}
 use Rattle.line.specs.Line.{Line}
-use Rattle.command.specs.declared.Header.{Header}
+use Rattle.rows.specs.declared.Header.{Header}
 use Rattle.sheet.specs.Reading.{accepted, reading}
 use Rattle.sheet.specs.Index.{Indexed}
 use Rattle.sheet.proofs.Sound.{Bytes}

@@ -12,9 +12,9 @@ use Rattle.bigendian.specs.Number.{bytes}
 use Rattle.bigendian.proofs.Numbers.{length-bytes, bytes-one}
 use Rattle.bigendian.proofs.Stores.{Growing, sets-append}
 use Rattle.line.specs.Line.{Line}
-use Rattle.command.specs.declared.Header.{Header}
-use Rattle.command.specs.Rows.{gap, budget, end}
-use Rattle.command.specs.Codes.{sizeRow, silenceRow}
+use Rattle.rows.specs.declared.Header.{Header}
+use Rattle.rows.specs.Rows.{gap, budget, end}
+use Rattle.rows.specs.Codes.{sizeRow, silenceRow}
 use Rattle.sheet.specs.Reading.{headerOf}
 use Rattle.tidyform.specs.Tidy.{written, toneBytes, mapBytes, tidy}
 use Rattle.tidy.specs.Copies.{part, toneCopy, copies}

@@ -10,7 +10,7 @@ ghost use Rattle.sheet.specs.Reading.{accepted, reading};
 ghost use Rattle.sheet.specs.Index.{Indexed};
 ghost use Rattle.tidyform.specs.Tidy.{wordBytes, mapBytes, tidy};
 ghost use Rattle.tidy.specs.Copies.{part, Inside, toneCopy, copies};
-use command::Header;
+use rows::Header;
 use sizes::HEADER_BYTES;
 use sizes::SILENCE_COMMAND;
 use sizes::TONE_COMMAND;

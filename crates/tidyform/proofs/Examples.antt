@@ -5,7 +5,7 @@ use mathlib.Core.List.{List, [], _∷_}
 use Prim.Native.Nat.{ℕ}
 use Rattle.bigendian.specs.Number.{number, bytes, numberAt}
 use Rattle.silence.specs.Map.{namesBeyond, some}
-use Rattle.command.specs.Rows.{rowAt}
+use Rattle.rows.specs.Rows.{rowAt}
 use Rattle.command.specs.Format.{decoded}
 use Rattle.sheet.specs.Reading.{Meaning, accepted, refused, readFrom, readingIn, reading}
 use Rattle.tidyform.specs.Tidy.{toneBytes, mapBytes, tidy}

@@ -14,8 +14,8 @@ use Rattle.lists.proofs.Stores.{all-same}
 use Rattle.bigendian.proofs.Numbers.{length-bytes}
 use Rattle.bigendian.proofs.Stores.{length-none, length-next}
 use Rattle.line.specs.Line.{Entry, undescribed, described, Line}
-use Rattle.command.specs.declared.Header.{Header}
-use Rattle.command.specs.declared.Command.the-variants.{Describe, Silence}
+use Rattle.rows.specs.declared.Header.{Header}
+use Rattle.rows.specs.declared.Command.the-variants.{Describe, Silence}
 use Rattle.places.specs.Places.{toneAt}
 use Rattle.sheet.specs.Reading.{bareLine, effect}
 use Rattle.tidyform.specs.Tidy.{entryBytes, toneBytes, wordBytes, mapBytes, tidy}

@@ -19,8 +19,8 @@ use Rattle.line.specs.declared.Kind.the-variants.{Pair, Single}
 use Rattle.line.specs.declared.Tone.{Tone}
 use Rattle.line.specs.Tone.{carriedBy, carried, kindOf, isSingle, mostCap, InRange}
 use Rattle.line.specs.Line.{described, isDescribed}
-use Rattle.command.specs.Rows.{Seen, Operand, within, toneNumber, map, withCode, tone}
-use Rattle.command.specs.Codes.{toneRow}
+use Rattle.rows.specs.Rows.{Seen, Operand, within, toneNumber, map, withCode, tone}
+use Rattle.rows.specs.Codes.{toneRow}
 use Rattle.places.specs.Places.{toneAt}
 use Rattle.command.specs.Format.{today}
 use Rattle.tidyform.specs.Tidy.{numbersOf, entryBytes}

@@ -13,8 +13,8 @@ use Rattle.bigendian.proofs.Stores.{Growing}
 use Rattle.line.specs.declared.Tone.{Tone}
 use Rattle.line.specs.Tone.{carried, isSingle}
 use Rattle.line.specs.Line.{Entry, undescribed, described}
-use Rattle.command.specs.Rows.{Row, tone}
-use Rattle.command.specs.Codes.{toneRow, silenceRow}
+use Rattle.rows.specs.Rows.{Row, tone}
+use Rattle.rows.specs.Codes.{toneRow, silenceRow}
 use Rattle.tidyform.specs.Tidy.{written, numbersOf, entryBytes, toneBytes, wordBytes, mapBytes}
 
 -- A command.

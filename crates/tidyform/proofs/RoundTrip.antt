@@ -21,9 +21,9 @@ use Rattle.silence.proofs.Maps.{clear-beyond}
 use Rattle.line.specs.declared.Tone.{Tone}
 use Rattle.line.specs.Tone.{carried, isSingle, gapUnit, InRange}
 use Rattle.line.specs.Line.{Entry, undescribed, described, EntryInRange, LineInRange, Line}
-use Rattle.command.specs.declared.Command.the-variants.{Describe, Silence}
-use Rattle.command.specs.Rows.{gap, budget, end}
-use Rattle.command.specs.Codes.{sizeRow, toneRow, silenceRow}
+use Rattle.rows.specs.declared.Command.the-variants.{Describe, Silence}
+use Rattle.rows.specs.Rows.{gap, budget, end}
+use Rattle.rows.specs.Codes.{sizeRow, toneRow, silenceRow}
 use Rattle.sheet.specs.Reading.{accepted, readingIn, reading, emptyLine, afterCommand, go}
 use Rattle.sheet.proofs.Sound.{Sound}
 use Rattle.tidyform.specs.Tidy.{written, numbersOf, entryBytes, wordBytes, toneBytes, mapBytes, tidy}

@@ -9,8 +9,8 @@ use native.Mathlib.Omega.{arith}
 use lib.ListN.{length}
 use Rattle.bigendian.specs.Number.{number}
 use Rattle.line.specs.Line.{Line}
-use Rattle.command.specs.Rows.{tone}
-use Rattle.command.specs.Codes.{silenceRow}
+use Rattle.rows.specs.Rows.{tone}
+use Rattle.rows.specs.Codes.{silenceRow}
 use Rattle.command.specs.Format.{today}
 use Rattle.command.proofs.Walk.{Each}
 use Rattle.sheet.specs.Reading.{accepted, reading}

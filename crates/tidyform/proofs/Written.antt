@@ -13,8 +13,8 @@ use lib.Seq.{getD-drop, drop-drop, drop-at}
 use Rattle.bigendian.specs.Number.{number, bytes}
 use Rattle.bigendian.proofs.Numbers.{number-same, number-here, length-bytes}
 use Rattle.line.specs.Line.{Line, entryOf}
-use Rattle.command.specs.declared.Command.{Command}
-use Rattle.command.specs.Rows.{Seen, Operand, Row, withCode, width, operandsFrom, rowAt, end}
+use Rattle.rows.specs.declared.Command.{Command}
+use Rattle.rows.specs.Rows.{Seen, Operand, Row, withCode, width, operandsFrom, rowAt, end}
 use Rattle.places.specs.Places.{addressed}
 use Rattle.command.specs.Format.{today, decoded}
 use Rattle.command.proofs.Walk.{seenAt}

@@ -10,8 +10,8 @@ use Rattle.bigendian.specs.Number.{bytes}
 use Rattle.line.specs.declared.Numbers.{Numbers}
 use Rattle.line.specs.Tone.{carried, isSingle}
 use Rattle.line.specs.Line.{Entry, undescribed, described, Line}
-use Rattle.command.specs.Rows.{Row, Operand, gap, budget, end}
-use Rattle.command.specs.Codes.{sizeRow, toneRow, silenceRow}
+use Rattle.rows.specs.Rows.{Row, Operand, gap, budget, end}
+use Rattle.rows.specs.Codes.{sizeRow, toneRow, silenceRow}
 
 -- A command as bytes: its own, then its operands' values, each in its width.
 abbrev pub operandBytes : List Operand → (values : List ℕ) → List ℕ

@@ -5,7 +5,7 @@ use native.Mathlib.Omega.{arith}
 use borrow.Author.Needs.{needs}
 use lib.ListN.{length, getD}
 use Rattle.line.specs.Line.{entryOf}
-use Rattle.command.specs.declared.Command.{Command}
+use Rattle.rows.specs.declared.Command.{Command}
 use Rattle.places.specs.Places.{addressed, entryAt}
 use Rattle.command.specs.Format.{today, commandAt}
 use Rattle.command.proofs.Said.{Said}

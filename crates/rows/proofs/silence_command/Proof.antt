@@ -1,13 +1,13 @@
--- `command::silence_command` meets its contract. Assumes nothing.
+-- `rows::silence_command` meets its contract. Assumes nothing.
 use mathlib.Core.Path.{_≡_, refl, sym, _∙_}
 use Prim.Native.Nat.{_+_}
 use native.Mathlib.Omega.{arith}
 use borrow.Author.Needs.{needs}
 use Rattle.bigendian.specs.Number.{number}
 use Rattle.bigendian.proofs.Numbers.{number-there}
-use Rattle.command.proofs.Rows.{above, in-range, silence-operands}
-use Rattle.command.proofs.silence_command.Statement.{statement}
-use Rattle.command.proofs.silence_command.Tie as tie
+use Rattle.rows.proofs.Judging.{above, in-range, silence-operands}
+use Rattle.rows.proofs.silence_command.Statement.{statement}
+use Rattle.rows.proofs.silence_command.Tie as tie
 
 -- the map is there, and is read
 map-read : (c : tie.After-number-at) → let a = c .before .before .before .before .args in c .number-at .result ≡ number (a .s .now) (a .at + 2) 4

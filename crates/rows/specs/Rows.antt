@@ -13,9 +13,9 @@ use Rattle.line.specs.Tone.{mostCap, gapUnit}
 use Rattle.line.specs.Line.{Entry, isDescribed}
 use Rattle.refusals.specs.declared.Refusal.{Refusal}
 use Rattle.refusals.specs.declared.Refusal.the-variants.{OperandOutOfRange, ToneBeyondLine, ToneRepeated}
-use Rattle.command.specs.declared.Header.{Header}
-use Rattle.command.specs.declared.Command.{Command}
-use Rattle.command.specs.declared.Command.the-variants.{End, Refused, Head, Describe, Silence}
+use Rattle.rows.specs.declared.Header.{Header}
+use Rattle.rows.specs.declared.Command.{Command}
+use Rattle.rows.specs.declared.Command.the-variants.{End, Refused, Head, Describe, Silence}
 
 -- What judging an operand looks at besides its value: the header so far, what is known of the tone that the command addresses, and the
 -- operands before it.

@@ -1,13 +1,13 @@
--- `command::header_command` meets its contract. Assumes nothing.
+-- `rows::header_command` meets its contract. Assumes nothing.
 use mathlib.Core.Path.{_≡_, sym, _∙_}
 use Prim.Native.Nat.{_+_}
 use native.Mathlib.Omega.{arith}
 use borrow.Author.Needs.{needs}
 use Rattle.bigendian.specs.Number.{number}
 use Rattle.bigendian.proofs.Numbers.{number-there}
-use Rattle.command.proofs.Rows.{below, above, in-range, one-operand, header-width}
-use Rattle.command.proofs.header_command.Statement.{statement}
-use Rattle.command.proofs.header_command.Tie as tie
+use Rattle.rows.proofs.Judging.{below, above, in-range, one-operand, header-width}
+use Rattle.rows.proofs.header_command.Statement.{statement}
+use Rattle.rows.proofs.header_command.Tie as tie
 
 -- the operand is there, and is read
 budget-read : (c : tie.After-number-at) → let a = c .before .before .before .args in c .number-at .result ≡ number (a .s .now) (a .at + 1) 8

@@ -1,4 +1,4 @@
--- `command::tone_command` meets its contract. Assumes nothing.
+-- `rows::tone_command` meets its contract. Assumes nothing.
 use mathlib.Core.Path.{_≡_, refl, sym, _∙_}
 use mathlib.Core.Bool.{Bool}
 use mathlib.Core.List.{List}
@@ -8,13 +8,13 @@ use borrow.Author.Needs.{needs}
 use borrow.Author.Tests.{le-leb, lt-leb, le-ltb, lt-ltb}
 use Rattle.bigendian.specs.Number.{number}
 use Rattle.bigendian.proofs.Numbers.{number-there}
-use Rattle.command.specs.declared.Command.{Command}
+use Rattle.rows.specs.declared.Command.{Command}
 use Rattle.places.specs.Places.{entryAt}
-use Rattle.command.specs.Rows.{rowAt}
-use Rattle.command.specs.Codes.{toneRow}
-use Rattle.command.proofs.Rows.{below, above, in-range, described-at, tone-operands, fromNoise, fromGain, fromCap, fromMask}
-use Rattle.command.proofs.tone_command.Statement.{statement}
-use Rattle.command.proofs.tone_command.Tie as tie
+use Rattle.rows.specs.Rows.{rowAt}
+use Rattle.rows.specs.Codes.{toneRow}
+use Rattle.rows.proofs.Judging.{below, above, in-range, described-at, tone-operands, fromNoise, fromGain, fromCap, fromMask}
+use Rattle.rows.proofs.tone_command.Statement.{statement}
+use Rattle.rows.proofs.tone_command.Tie as tie
 
 -- the command does what it does from one of its operands on
 abbrev Leaves : (List ℕ → ℕ → Bool → Command) → tie.Start → Type 0
