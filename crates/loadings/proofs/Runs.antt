@@ -18,7 +18,8 @@ use Rattle.line.proofs.Arrays.{no-bits-stand, stands-under, shift-under}
 use Rattle.running.specs.declared.Running.{Running}
 use Rattle.running.specs.declared.Progress.{Progress}
 use Rattle.running.specs.declared.Progress.the-variants.{Moved, Finished}
-use Rattle.running.specs.Running.{progressAfter, Stands, Runnable}
+use Rattle.running.specs.Running.{Stands, Runnable}
+use Rattle.wholeruns.specs.WholeRuns.{progressAfter}
 use Rattle.starts.specs.Starts.{noBitsYet}
 use Rattle.loadings.specs.Loads.{Loadable}
 use Rattle.loadings.specs.Refits.{stepped}

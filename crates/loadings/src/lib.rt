@@ -41,7 +41,7 @@ pub fn most(
         return Loaded::Refused(Refusal::DestinationTooSmall);
     }
     let start = starts::no_bits();
-    let ended = running::run(
+    let ended = wholeruns::run(
         start,
         Rule::Add,
         MOST_BITS,
@@ -75,7 +75,7 @@ pub fn target(
         return Loaded::Refused(Refusal::DestinationTooSmall);
     }
     let start = starts::no_bits();
-    let ended = running::run(
+    let ended = wholeruns::run(
         start,
         Rule::Add,
         target,
@@ -123,7 +123,7 @@ pub fn refit(
         Above::Tone(tone) => Refitted::Refused(Refusal::StartAboveLimit(tone as u16)),
         Above::Nowhere => {
             let from = starts::from_start(start, costs, doublings);
-            let ended = running::run(
+            let ended = wholeruns::run(
                 from,
                 Rule::Refit,
                 most,

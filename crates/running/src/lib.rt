@@ -1,10 +1,10 @@
-// The running table, the moves that change it, the step of a rule and the run of steps. Document 01, 'The loading runs': 'The running table
-// goes into a step and comes back with the answer 'moved' or 'finished'.'
+// The running table, the moves that change it, and the step of a rule. Document 01, 'The loading runs': 'The running table goes into a step
+// and comes back with the answer 'moved' or 'finished'.'
 ghost use mathlib.Core.Path.{_≡_};
 ghost use Rattle.lists.specs.Lent.{before, after};
 ghost use Rattle.line.specs.Arrays.{arrays, arraysBefore};
 ghost use Rattle.ranks.specs.Ranks.{Ranked};
-ghost use Rattle.running.specs.Running.{taken, givenUp, CanTake, CanGiveUp, RanksFollow, Runnable, StepsBy, RunsBy};
+ghost use Rattle.running.specs.Running.{taken, givenUp, CanTake, CanGiveUp, RanksFollow, Runnable, StepsBy};
 use moves::Move;
 use moves::Rule;
 use moves::Step;
@@ -25,13 +25,6 @@ pub enum Progress {
 // The running table comes back from a step with its answer.
 pub struct Stepped {
     pub running: Running,
-    pub progress: Progress,
-}
-
-// The running table comes back from a run with how many of its steps moved, and with 'finished' if the last found nothing to move.
-pub struct Ended {
-    pub running: Running,
-    pub moves: u32,
     pub progress: Progress,
 }
 
@@ -103,7 +96,7 @@ impl Running {
     }
 
     // One step of a rule: the one move that it names, or none.
-    fn step(
+    pub fn step(
         mut self,
         rule: Rule,
         budget: u64,
@@ -146,62 +139,5 @@ impl Running {
                 }
             }
         }
-    }
-}
-
-// Steps of a rule until one answers 'finished', or until `most` of them have moved; the count is of those that answered 'moved'.
-pub fn run(
-    start: Running,
-    rule: Rule,
-    most: u32,
-    budget: u64,
-    count: usize,
-    limits: &[u8; TONES],
-    costs: &[u32; TONES],
-    doublings: &[u8; TONES],
-) -> Ended
-    requires { ⌜ Runnable count (arrays (now limits) (now costs) (now doublings)) start ⌝ }
-    ensures { λ r. ⌜ RunsBy count (arraysBefore limits costs doublings) rule most budget start r ⌝ }
-{
-    let bits = start.bits;
-    let mut free = [u64::MAX; TONES];
-    let mut held = [u64::MAX; TONES];
-    ranks::fill_ranks(count, limits, costs, doublings, &bits, &mut free, &mut held);
-    let mut now = Stepped {
-        running: start,
-        progress: Progress::Moved,
-    };
-    let mut moves: u32 = 0;
-    while moves < most {
-        now = now.running.step(
-            rule,
-            budget,
-            count,
-            limits,
-            costs,
-            doublings,
-            &mut free,
-            &mut held,
-        );
-        let progress = now.progress;
-        match progress {
-            Progress::Moved => {
-                moves += 1;
-            }
-            Progress::Finished => {
-                let running = now.running;
-                return Ended {
-                    running: running,
-                    moves: moves,
-                    progress: progress,
-                };
-            }
-        }
-    }
-    let running = now.running;
-    Ended {
-        running: running,
-        moves: moves,
-        progress: Progress::Moved,
     }
 }

@@ -1,4 +1,4 @@
--- `running::run` meets its contract. Between the steps what is left of the run is the rest of the whole one. Assumes nothing.
+-- `wholeruns::run` meets its contract. Between the steps what is left of the run is the rest of the whole one. Assumes nothing.
 use Prim.Native.Nat.{_-_}
 use native.Mathlib.Omega.{arith}
 use borrow.Author.Needs.{needs}
@@ -7,9 +7,9 @@ use Rattle.sizes.specs.Sizes.{mostTones}
 use Rattle.line.specs.Arrays.{arrays}
 use Rattle.line.proofs.Arrays.{stands-under}
 use Rattle.ranks.specs.Ranks.{noStep, NoneFrom}
-use Rattle.running.proofs.Along.{Along, along-starts, along-full, along-finished, along-moved}
-use Rattle.running.proofs.run.Statement.{statement}
-use Rattle.running.proofs.run.Tie as tie
+use Rattle.wholeruns.proofs.Along.{Along, along-starts, along-full, along-finished, along-moved}
+use Rattle.wholeruns.proofs.run.Statement.{statement}
+use Rattle.wholeruns.proofs.run.Tie as tie
 
 abbrev Inv-loop : tie.InvT-loop
 Inv-loop rule most budget count limits costs doublings free₀ held₀ now₀ moves₀ free held now moves =

@@ -13,10 +13,11 @@ use Rattle.line.specs.Arrays.{Arrays}
 use Rattle.ranks.specs.Ranks.{Ranked}
 use Rattle.moves.specs.declared.Rule.{Rule}
 use Rattle.moves.specs.Moves.{ruleOf}
 use Rattle.running.specs.declared.Progress.the-variants.{Moved, Finished}
 use Rattle.running.specs.declared.Running.{Running}
 use Rattle.running.specs.declared.Stepped.{Stepped}
-use Rattle.running.specs.Running.{progressAfter, Stands, Runnable, AnswersAs, StepsBy, EndsAs, RunsBy}
+use Rattle.running.specs.Running.{Stands, Runnable, AnswersAs, StepsBy}
+use Rattle.wholeruns.specs.WholeRuns.{progressAfter, EndsAs, RunsBy}
 
 module _ (count : ℕ) (A : Arrays) where
   -- the rule moves to table `to`, for which the running table then stands

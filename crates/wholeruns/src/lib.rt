@@ -1,0 +1,74 @@
+// The whole run of a rule: steps until one answers 'finished', counted. Document 01, 'The loading runs': 'Re-fit run. Steps until finished; it
+// reports how many moved.'
+ghost use Rattle.line.specs.Arrays.{arrays, arraysBefore};
+ghost use Rattle.running.specs.Running.{Runnable};
+ghost use Rattle.wholeruns.specs.WholeRuns.{RunsBy};
+use moves::Rule;
+use running::Progress;
+use running::Running;
+use running::Stepped;
+use sizes::TONES;
+
+// The running table comes back from a run with how many of its steps moved, and with 'finished' if the last found nothing to move.
+pub struct Ended {
+    pub running: Running,
+    pub moves: u32,
+    pub progress: Progress,
+}
+
+// Steps of a rule until one answers 'finished', or until `most` of them have moved; the count is of those that answered 'moved'.
+pub fn run(
+    start: Running,
+    rule: Rule,
+    most: u32,
+    budget: u64,
+    count: usize,
+    limits: &[u8; TONES],
+    costs: &[u32; TONES],
+    doublings: &[u8; TONES],
+) -> Ended
+    requires { ⌜ Runnable count (arrays (now limits) (now costs) (now doublings)) start ⌝ }
+    ensures { λ r. ⌜ RunsBy count (arraysBefore limits costs doublings) rule most budget start r ⌝ }
+{
+    let bits = start.bits;
+    let mut free = [u64::MAX; TONES];
+    let mut held = [u64::MAX; TONES];
+    ranks::fill_ranks(count, limits, costs, doublings, &bits, &mut free, &mut held);
+    let mut now = Stepped {
+        running: start,
+        progress: Progress::Moved,
+    };
+    let mut moves: u32 = 0;
+    while moves < most {
+        now = now.running.step(
+            rule,
+            budget,
+            count,
+            limits,
+            costs,
+            doublings,
+            &mut free,
+            &mut held,
+        );
+        let progress = now.progress;
+        match progress {
+            Progress::Moved => {
+                moves += 1;
+            }
+            Progress::Finished => {
+                let running = now.running;
+                return Ended {
+                    running: running,
+                    moves: moves,
+                    progress: progress,
+                };
+            }
+        }
+    }
+    let running = now.running;
+    Ended {
+        running: running,
+        moves: moves,
+        progress: Progress::Moved,
+    }
+}
