@@ -1,5 +1,5 @@
 -- Laws of the command at a place: `rows-late`, `one-row`, `some-late`, `none-late`, `row-found`, the row that a command byte finds; `command-too-long`, `command-at`,
--- `no-row`, `row-cut`, `row-whole`, the command there.
+-- `no-row`, `row-there`, the command there.
 -- Assumes nothing.
 use mathlib.Core.Path.{_≡_, refl, sym, ap, _∙_}
 use mathlib.Core.Bool.{Bool, true, false, cond, true≢false}
@@ -16,8 +16,8 @@ use Rattle.line.specs.Line.{Entry}
 use Rattle.refusals.specs.declared.Refusal.the-variants.{SheetTooLong, SheetEnds, CommandNotAllowed}
 use Rattle.rows.specs.declared.Header.{Header}
 use Rattle.rows.specs.declared.Command.the-variants.{Refused}
-use Rattle.rows.specs.Rows.{Row, pair, single, end, withCode, width, rowAt}
-use Rattle.rows.specs.Codes.{silenceRow, allRows, rowOf}
+use Rattle.rows.specs.Rows.{Row, pair, single, end, withCode}
+use Rattle.rows.specs.Codes.{silenceRow, allRows, rowOf, codeAt}
 use Rattle.command.specs.Format.{isRow, today, decoded, commandAt}
 use Rattle.command.proofs.Walk.{Each, Found, found}
 
@@ -114,13 +114,7 @@ module _ (h : Header) (known : Entry) (s : List ℕ) (at stage : ℕ) (inside : 
   unfolding decoded
   no-row z = simp (lt-leb (length s) at inside, none-found (withCode (today .rows stage) (getD s at 0)) z)
 
-  module _ (bytes : ℕ) (r : Row) (f : withCode (today .rows stage) (getD s at 0) ≡ some r) (e : bytes ≡ 1 + width (r .operands)) where
-    pub row-cut : length s < at + bytes → decoded today h known s at stage ≡ record { command = Refused (SheetEnds (length s)); next = at }
-    unfolding decoded
-    row-cut l = simp (lt-leb (length s) at inside, f, lt-ltb (length s) (at + 1 + width (r .operands)) (omega arith))
-
-    pub row-whole : at + bytes ≤ length s → decoded today h known s at stage ≡ record { command = rowAt h known s at r; next = at + bytes }
-    unfolding decoded
-    row-whole l =
-        let next : at + 1 + width (r .operands) ≡ at + bytes = omega arith in
-        simp (lt-leb (length s) at inside, f, next, le-ltb (length s) (at + bytes) l)
+  pub row-there : length s ≤ longestSheet → withCode (today .rows stage) (getD s at 0) ≡ some (rowOf (getD s at 0))
+      → decoded today h known s at stage ≡ codeAt h known s at (getD s at 0)
+  unfolding decoded codeAt
+  row-there short f = rw (lt-leb (length s) at inside, f, le-ltb longestSheet (length s) short)

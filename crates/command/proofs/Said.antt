@@ -20,7 +20,7 @@ use Rattle.line.specs.Line.{Entry, isDescribed}
 use Rattle.rows.specs.declared.Header.{Header}
 use Rattle.rows.specs.declared.Command.{Command}
 use Rattle.rows.specs.declared.Command.the-variants.{End, Refused, Head, Describe, Silence}
-use Rattle.command.specs.declared.Decoded.{Decoded}
+use Rattle.rows.specs.declared.Decoded.{Decoded}
 use Rattle.rows.specs.Rows.{Row, tone, width}
 use Rattle.places.specs.Places.{addressed}
 use Rattle.command.specs.Format.{today, isTooLong, commandAt}

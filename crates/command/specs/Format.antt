@@ -13,7 +13,7 @@ use Rattle.refusals.specs.declared.Refusal.the-variants.{SheetTooLong, SheetEnd
 use Rattle.rows.specs.declared.Header.{Header}
 use Rattle.rows.specs.declared.Command.{Command}
 use Rattle.rows.specs.declared.Command.the-variants.{End, Refused, Head, Describe, Silence}
-use Rattle.command.specs.declared.Decoded.{Decoded}
+use Rattle.rows.specs.declared.Decoded.{Decoded}
 use Rattle.rows.specs.Rows.{Row, width, rowsOf, withCode, rowAt}
 
 -- The most tones, the silence words, the longest sheet, and the commands allowed after so many of the first three.

@@ -6,14 +6,9 @@ ghost use Rattle.rows.specs.Rows.{withCode};
 ghost use Rattle.command.specs.Format.{isRow, today, commandAt};
 use refusals::Refusal;
 use rows::Command;
+use rows::Decoded;
 use rows::Header;
 use sizes::SHEET_BYTES;
-
-// A command, and the place after it.
-pub struct Decoded {
-    pub command: Command,
-    pub next: usize,
-}
 
 // Whether a command byte is allowed after so many of the first three commands.
 fn is_allowed(stage: u8, code: u8) -> bool
@@ -46,12 +41,11 @@ pub fn decode(s: &[u8], at: usize, stage: u8, header: Header, place: u16) -> Dec
             next: at,
         };
     }
-    let ends = Decoded {
-        command: Command::Refused(Refusal::SheetEnds(length as u16)),
-        next: at,
-    };
     if length <= at {
-        return ends;
+        return Decoded {
+            command: Command::Refused(Refusal::SheetEnds(length as u16)),
+            next: at,
+        };
     }
     let code = s[at];
     if !is_allowed(stage, code) {
@@ -60,12 +54,5 @@ pub fn decode(s: &[u8], at: usize, stage: u8, header: Header, place: u16) -> Dec
             next: at,
         };
     }
-    let bytes = rows::bytes_of(code);
-    if length - at < bytes {
-        return ends;
-    }
-    Decoded {
-        command: rows::row_at(s, at, code, header, place),
-        next: at + bytes,
-    }
+    rows::row_at(s, at, code, header, place)
 }

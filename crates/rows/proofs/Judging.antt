@@ -146,14 +146,18 @@ end-row code l = rw (other 1 tt, other 2 tt, other 3 tt, other 4 tt, other 5 tt,
 -- ---- the command of a byte
 
 module _ (h : Header) (known : Entry) (s : List ℕ) (at code : ℕ) where
-  pub code-too-long : longestSheet < length s → codeAt h known s at code ≡ Refused SheetTooLong
+  pub code-too-long : longestSheet < length s → codeAt h known s at code ≡ record { command = Refused SheetTooLong; next = at }
   unfolding codeAt
   code-too-long long = rw (lt-ltb longestSheet (length s) long)
 
-  pub code-cut : length s ≤ longestSheet → length s < at + 1 + width (rowOf code .operands) → codeAt h known s at code ≡ Refused (SheetEnds (length s))
-  unfolding codeAt
-  code-cut short l = rw (le-ltb longestSheet (length s) short, lt-ltb (length s) (at + 1 + width (rowOf code .operands)) l)
+  module _ (short : length s ≤ longestSheet) where
+    pub code-cut : length s < at + 1 + width (rowOf code .operands) → codeAt h known s at code ≡ record { command = Refused (SheetEnds (length s)); next = at }
+    unfolding codeAt
+    code-cut l = rw (le-ltb longestSheet (length s) short, lt-ltb (length s) (at + 1 + width (rowOf code .operands)) l)
 
-  pub code-whole : length s ≤ longestSheet → at + 1 + width (rowOf code .operands) ≤ length s → codeAt h known s at code ≡ rowAt h known s at (rowOf code)
-  unfolding codeAt
-  code-whole short l = rw (le-ltb longestSheet (length s) short, le-ltb (length s) (at + 1 + width (rowOf code .operands)) l)
+    pub code-whole : {bytes : ℕ} → bytes ≡ 1 + width (rowOf code .operands) → at + bytes ≤ length s
+        → codeAt h known s at code ≡ record { command = rowAt h known s at (rowOf code); next = at + bytes }
+    unfolding codeAt
+    code-whole {bytes} e l =
+        let next : at + 1 + width (rowOf code .operands) ≡ at + bytes = omega arith in
+        rw (le-ltb longestSheet (length s) short, next, le-ltb (length s) (at + bytes) l)

@@ -117,11 +117,6 @@ abbrev pub width : List Operand → ℕ
 width [] = 0
 width (o ∷ os) = o .width + width os
 
--- the bytes of a command in all, and 0 where there is none
-abbrev pub bytesOf : Option Row → ℕ
-bytesOf none = 0
-bytesOf (some r) = 1 + width (r .operands)
-
 -- The operands left to right: the first refusal met, or what the command does of all their values.
 abbrev pub judged : Option Refusal → Command → Command
 judged (some r) c = Refused r

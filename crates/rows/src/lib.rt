@@ -37,6 +37,12 @@ pub enum Command {
     Silence(u8, u32),
 }
 
+// A command, and the place after it.
+pub struct Decoded {
+    pub command: Command,
+    pub next: usize,
+}
+
 // Refusal 4, at the place of an operand.
 fn out_of_range(place: usize) -> Command
     requires { ⌜ place ≤ longestSheet ⌝ }
@@ -135,7 +141,7 @@ fn silence_command(s: &[u8], at: usize, header: Header) -> Command
 }
 
 // How many bytes the command of a byte has in all; a byte of no command counts as the end.
-pub fn bytes_of(code: u8) -> usize
+fn bytes_of(code: u8) -> usize
     ensures { λ r. ⌜ r ≡ 1 + width (rowOf code .operands) ⌝ }
 {
     match code {
@@ -161,21 +167,32 @@ fn operands(s: &[u8], at: usize, code: u8, header: Header, place: u16) -> Comman
     }
 }
 
-// What the command of a byte does at a place of any bytes, or why it is refused: 1 where they are too many for a sheet, 2 where those of the
-// command are not all there, and then its operands from left to right. `place` is where the tone that it addresses is described already, or 0.
-pub fn row_at(s: &[u8], at: usize, code: u8, header: Header, place: u16) -> Command
+// What the command of a byte does at a place of any bytes, or why it is refused, and the place after it: refusal 1 where they are too many for
+// a sheet, 2 where those of the command are not all there, and then its operands from left to right. `place` is where the tone that it
+// addresses is described already, or 0.
+pub fn row_at(s: &[u8], at: usize, code: u8, header: Header, place: u16) -> Decoded
     ensures { λ r. ⌜ r ≡ codeAt header (entryAt (before s) place) (before s) at code ⌝ }
 {
     let length = s.len();
     if SHEET_BYTES < length {
-        return Command::Refused(Refusal::SheetTooLong);
+        return Decoded {
+            command: Command::Refused(Refusal::SheetTooLong),
+            next: at,
+        };
     }
-    let ends = Command::Refused(Refusal::SheetEnds(length as u16));
+    let ends = Decoded {
+        command: Command::Refused(Refusal::SheetEnds(length as u16)),
+        next: at,
+    };
     if length < at {
         return ends;
     }
-    if length - at < bytes_of(code) {
+    let bytes = bytes_of(code);
+    if length - at < bytes {
         return ends;
     }
-    operands(s, at, code, header, place)
+    Decoded {
+        command: operands(s, at, code, header, place),
+        next: at + bytes,
+    }
 }

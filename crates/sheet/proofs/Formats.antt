@@ -15,7 +15,7 @@ use Rattle.refusals.specs.declared.Refusal.{Refusal}
 use Rattle.rows.specs.declared.Header.{Header}
 use Rattle.rows.specs.declared.Command.{Command}
 use Rattle.rows.specs.declared.Command.the-variants.{End, Refused, Head, Describe, Silence}
-use Rattle.command.specs.declared.Decoded.{Decoded}
+use Rattle.rows.specs.declared.Decoded.{Decoded}
 use Rattle.rows.specs.Rows.{Row, width, withCode}
 use Rattle.places.specs.Places.{addressed}
 use Rattle.command.specs.Format.{Format, isTooLong, decodedRow, decoded, isRefused, Covered, Within}

@@ -22,7 +22,7 @@ use Rattle.refusals.specs.declared.Refusal.the-variants.{BytesAfterEnd}
 use Rattle.rows.specs.declared.Header.{Header}
 use Rattle.rows.specs.declared.Command.{Command}
 use Rattle.rows.specs.declared.Command.the-variants.{End, Refused, Head, Describe, Silence}
-use Rattle.command.specs.declared.Decoded.{Decoded}
+use Rattle.rows.specs.declared.Decoded.{Decoded}
 use Rattle.places.specs.Places.{addressed, entryAt}
 use Rattle.command.specs.Format.{today, commandAt}
 use Rattle.command.proofs.Said.{There, Said, command-said}

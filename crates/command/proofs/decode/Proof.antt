@@ -2,15 +2,13 @@
 use mathlib.Core.Option.{some}
 use mathlib.Core.Path.{_≡_, sym, _∙_}
 use Prim.Native.Nat.{ℕ}
-use native.Mathlib.Omega.{arith}
 use borrow.Author.Needs.{needs}
 use borrow.Author.Tests.{le-leb, not-true, not-false}
 use lib.ListN.{getD}
 use Rattle.rows.specs.Rows.{withCode}
 use Rattle.rows.specs.Codes.{rowOf}
-use Rattle.rows.proofs.Judging.{code-whole}
 use Rattle.command.specs.Format.{today, decoded}
-use Rattle.command.proofs.Rows.{row-found, command-too-long, command-at, no-row, row-cut, row-whole}
+use Rattle.command.proofs.Rows.{row-found, command-too-long, command-at, no-row, row-there}
 use Rattle.command.proofs.decode.Statement.{statement}
 use Rattle.command.proofs.decode.Tie as tie
 
@@ -36,16 +34,8 @@ returns-3 c =
 
 returns-4 : tie.Need-returns-4
 returns-4 c =
-    sym
-    (command-at _ _ _ _ _ (c .before .before .before .before .before .before .if1 .left)
-    ∙ row-cut _ _ _ _ _ (c .before .before .before .before .before .if2 .left) _ _ (allowed (c .before .before)) (c .before .bytes-of .ensures) (omega arith))
-
-returns-5 : tie.Need-returns-5
-returns-5 c =
-    let short = c .before .before .before .before .before .before .before .if1 .left in
-    let bytes = c .before .before .bytes-of .ensures in
-    rw (c .row-at .ensures ∙ code-whole _ _ _ _ _ short (omega (arith, bytes)))
-    (sym (command-at _ _ _ _ _ short ∙ row-whole _ _ _ _ _ (c .before .before .before .before .before .before .if2 .left) _ _ (allowed (c .before .before .before)) bytes (omega arith)))
+    let short = c .before .before .before .before .before .if1 .left in
+    rw (c .row-at .ensures) (sym (command-at _ _ _ _ _ short ∙ row-there _ _ _ _ _ (c .before .before .before .before .if2 .left) short (allowed (c .before))))
 
 pub decode-spec : {M : Type 1} → statement M
 decode-spec =
@@ -59,8 +49,4 @@ decode-spec =
     (λ c. search needs)
     returns-3
     (λ c κs. search needs)
-    (λ c. search needs)
-    returns-4
-    (λ c κs. search needs)
-    (λ c. search needs)
-    returns-5)
+    returns-4)

@@ -1,5 +1,5 @@
 -- `rows::row_at` meets its contract. Assumes nothing.
-use mathlib.Core.Path.{sym, _∙_}
+use mathlib.Core.Path.{sym}
 use native.Mathlib.Omega.{arith}
 use borrow.Author.Needs.{needs}
 use Rattle.rows.proofs.Judging.{code-too-long, code-cut, code-whole}
@@ -16,9 +16,17 @@ returns-3 : tie.Need-returns-3
 returns-3 c = sym (code-cut _ _ _ _ _ (c .before .before .before .if1 .left) (omega (arith, c .before .bytes-of .ensures)))
 
 returns-4 : tie.Need-returns-4
-returns-4 c = c .operands .ensures ∙ sym (code-whole _ _ _ _ _ (c .before .before .before .before .if1 .left) (omega (arith, c .before .before .bytes-of .ensures)))
+returns-4 c = rw (c .operands .ensures) (sym (code-whole _ _ _ _ _ (c .before .before .before .before .if1 .left) (c .before .before .bytes-of .ensures) (omega arith)))
 
 pub row-at-spec : {M : Type 1} → statement M
 row-at-spec =
     tie.close
-    (tie.spec returns (λ c. search needs) returns-2 (λ c κs. search needs) returns-3 (λ c κs. search needs) returns-4)
+    (tie.spec
+    returns
+    (λ c. search needs)
+    returns-2
+    (λ c κs. search needs)
+    returns-3
+    (λ c κs. search needs)
+    (λ c. search needs)
+    returns-4)
