@@ -4,7 +4,7 @@ use mathlib.Core.Bool.{Bool, true, false, cond}
 use mathlib.Core.List.{List}
 use mathlib.Core.Option.{Option, none, some}
 use mathlib.Core.Path.{_≡_}
-use Prim.Native.Nat.{ℕ, _+_, _≤_}
+use Prim.Native.Nat.{ℕ, _≤_}
 use lib.Dec.{leb, ltb}
 use lib.ListN.{length, getD}
 use Rattle.sizes.specs.Sizes.{mostTones, mostWords, longestSheet}
@@ -14,7 +14,7 @@ use Rattle.rows.specs.declared.Header.{Header}
 use Rattle.rows.specs.declared.Command.{Command}
 use Rattle.rows.specs.declared.Command.the-variants.{End, Refused, Head, Describe, Silence}
 use Rattle.rows.specs.declared.Decoded.{Decoded}
-use Rattle.rows.specs.Rows.{Row, width, rowsOf, withCode, rowAt}
+use Rattle.rows.specs.Rows.{Row, width, rowsOf, withCode, rowAt, wholeRow}
 
 -- The most tones, the silence words, the longest sheet, and the commands allowed after so many of the first three.
 pub record Format : Type 0 where
@@ -40,13 +40,11 @@ isRow (some r) = true
 abbrev pub isTooLong : Format → List ℕ → Bool
 isTooLong F s = ltb (F .bytes) (length s)
 
--- The command at a place of a sheet: refusal 2 where the sheet ends there, 3 where its byte is not allowed, 2 where the rest of its
--- operands is missing; else as its row has it. With it comes the place after the command.
+-- The command at a place of a sheet: refusal 2 where the sheet ends there, 3 where its byte is not allowed; else as its row has it. With it
+-- comes the place after the command.
 abbrev pub decodedRow : Header → (known : Entry) → List ℕ → (at : ℕ) → Option Row → Decoded
 decodedRow h known s at none = record { command = Refused (CommandNotAllowed at); next = at }
-decodedRow h known s at (some r) =
-    cond (ltb (length s) (at + 1 + width (r .operands))) (record { command = Refused (SheetEnds (length s)); next = at })
-    (record { command = rowAt h known s at r; next = at + 1 + width (r .operands) })
+decodedRow h known s at (some r) = wholeRow h known s at r
 
 unfoldable pub decoded : Format → Header → (known : Entry) → List ℕ → (at stage : ℕ) → Decoded
 unfolding rowAt

@@ -3,16 +3,16 @@
 use mathlib.Core.Bool.{Bool, true, false, cond}
 use mathlib.Core.List.{List, _++_}
 use mathlib.Core.Option.{Option, none, some}
-use Prim.Native.Nat.{ℕ, _+_}
+use Prim.Native.Nat.{ℕ}
 use lib.Dec.{ltb}
 use lib.ListN.{length}
 use Rattle.sizes.specs.Sizes.{mostTones, mostWords, longestSheet}
 use Rattle.line.specs.Line.{Entry}
-use Rattle.refusals.specs.declared.Refusal.the-variants.{SheetTooLong, SheetEnds}
+use Rattle.refusals.specs.declared.Refusal.the-variants.{SheetTooLong}
 use Rattle.rows.specs.declared.Header.{Header}
 use Rattle.rows.specs.declared.Command.the-variants.{Refused}
 use Rattle.rows.specs.declared.Decoded.{Decoded}
-use Rattle.rows.specs.Rows.{Row, size, pair, single, silence, end, rowsOf, withCode, width, rowAt}
+use Rattle.rows.specs.Rows.{Row, size, pair, single, silence, end, rowsOf, withCode, rowAt, wholeRow}
 
 abbrev pub sizeRow : Row
 sizeRow = size mostTones
@@ -39,11 +39,10 @@ orEnd (some r) = r
 abbrev pub rowOf : (code : ℕ) → Row
 rowOf code = orEnd (withCode allRows code)
 
--- What the command of a byte does at a place of any bytes, with the place after it: refusal 1 of more than a sheet has, 2 where those of the
--- command are not all there, else as its row has it.
+-- What the command of a byte does at a place of any bytes, with the place after it: refusal 1 of more than a sheet has, else as its row has
+-- it.
 unfoldable pub codeAt : Header → (known : Entry) → List ℕ → (at code : ℕ) → Decoded
 unfolding rowAt
 codeAt h known s at code =
     cond (ltb longestSheet (length s)) (record { command = Refused SheetTooLong; next = at })
-    (cond (ltb (length s) (at + 1 + width (rowOf code .operands))) (record { command = Refused (SheetEnds (length s)); next = at })
-    (record { command = rowAt h known s at (rowOf code); next = at + 1 + width (rowOf code .operands) }))
+    (wholeRow h known s at (rowOf code))

@@ -5,17 +5,18 @@ use mathlib.Core.List.{List, [], _∷_, _++_}
 use mathlib.Core.Option.{Option, none, some}
 use Prim.Native.Nat.{ℕ, zero, suc, _+_, _-_}
 use lib.Dec.{leb, ltb, eqb}
-use lib.ListN.{getD}
+use lib.ListN.{length, getD}
 use Rattle.sizes.specs.Sizes.{mostPower}
 use Rattle.bigendian.specs.Number.{number}
 use Rattle.silence.specs.Map.{namesBeyond}
 use Rattle.line.specs.Tone.{mostCap, gapUnit}
 use Rattle.line.specs.Line.{Entry, isDescribed}
 use Rattle.refusals.specs.declared.Refusal.{Refusal}
-use Rattle.refusals.specs.declared.Refusal.the-variants.{OperandOutOfRange, ToneBeyondLine, ToneRepeated}
+use Rattle.refusals.specs.declared.Refusal.the-variants.{SheetEnds, OperandOutOfRange, ToneBeyondLine, ToneRepeated}
 use Rattle.rows.specs.declared.Header.{Header}
 use Rattle.rows.specs.declared.Command.{Command}
 use Rattle.rows.specs.declared.Command.the-variants.{End, Refused, Head, Describe, Silence}
+use Rattle.rows.specs.declared.Decoded.{Decoded}
 
 -- What judging an operand looks at besides its value: the header so far, what is known of the tone that the command addresses, and the
 -- operands before it.
@@ -131,3 +132,10 @@ operandsFrom seen s at (o ∷ os) does =
 -- What the command of a row does at a place, all of whose bytes are there.
 unfoldable pub rowAt : Header → (known : Entry) → List ℕ → (at : ℕ) → Row → Command
 rowAt h known s at r = operandsFrom (record { header = h; known = known; before = [] }) s (at + 1) (r .operands) (r .does h)
+
+-- 'Within a command, 2 comes before any operand is judged': refusal 2 where the rest of a row's operands is missing, else what its command
+-- does. With it comes the place after the command.
+abbrev pub wholeRow : Header → (known : Entry) → List ℕ → (at : ℕ) → Row → Decoded
+wholeRow h known s at r =
+    cond (ltb (length s) (at + 1 + width (r .operands))) (record { command = Refused (SheetEnds (length s)); next = at })
+    (record { command = rowAt h known s at r; next = at + 1 + width (r .operands) })
