@@ -13,9 +13,13 @@ ghost use Rattle.rows.specs.Rows.{rowAt, width};
 ghost use Rattle.rows.specs.Codes.{rowOf, toneRow, silenceRow, codeAt};
 use line::GAP_UNIT;
 use refusals::Refusal;
+use sizes::BUDGET_COMMAND;
+use sizes::END_COMMAND;
+use sizes::GAP_COMMAND;
 use sizes::MOST_POWER;
 use sizes::SHEET_BYTES;
 use sizes::SILENCE_COMMAND;
+use sizes::SIZE_COMMAND;
 use sizes::TONE_COMMAND;
 use sizes::TONES;
 use sizes::WORDS;
@@ -145,11 +149,12 @@ fn bytes_of(code: u8) -> usize
     ensures { λ r. ⌜ r ≡ 1 + width (rowOf code .operands) ⌝ }
 {
     match code {
-        1 | 2 => 3,
-        3 => 9,
+        1 => SIZE_COMMAND,
+        2 => GAP_COMMAND,
+        3 => BUDGET_COMMAND,
         4 | 5 => TONE_COMMAND,
         6 => SILENCE_COMMAND,
-        _ => 1,
+        _ => END_COMMAND,
     }
 }
 

@@ -36,15 +36,24 @@ mostPower = 2 ^ 47
 abbrev pub mostBitsOfAll : ℕ
 mostBitsOfAll = mostTones * pairCap
 
--- the table of commands, 'Bytes in all': a tone's command, a silence command, and the first three together, 3 + 3 + 9
+-- the table of commands, 'Bytes in all'
+abbrev pub sizeCommand : ℕ
+sizeCommand = 3
+
+abbrev pub gapCommand : ℕ
+gapCommand = 3
+
+abbrev pub budgetCommand : ℕ
+budgetCommand = 9
+
 abbrev pub toneCommand : ℕ
 toneCommand = 15
 
 abbrev pub silenceCommand : ℕ
 silenceCommand = 6
 
-abbrev pub headerBytes : ℕ
-headerBytes = 15
+abbrev pub endCommand : ℕ
+endCommand = 1
 
 -- 'A loading writes 9 bytes a tone'
 abbrev pub bytesATone : ℕ

@@ -22,12 +22,18 @@ pub const MOST_BITS: u32 = TONES as u32 * PAIR_CAP as u32;
 // The largest budget and the largest mask: 2^47.
 pub const MOST_POWER: u64 = 0x8000_0000_0000;
 
-// The bytes of a command that describes a tone, of one that silences, and of the first three commands together.
+// The bytes of each command in all.
+pub const SIZE_COMMAND: usize = 3;
+
+pub const GAP_COMMAND: usize = 3;
+
+pub const BUDGET_COMMAND: usize = 9;
+
 pub const TONE_COMMAND: usize = 15;
 
 pub const SILENCE_COMMAND: usize = 6;
 
-pub const HEADER_BYTES: usize = 15;
+pub const END_COMMAND: usize = 1;
 
 // The bytes of a tone in a written table: its bits, and its power in 8 bytes.
 pub const TONE_BYTES: usize = 9;

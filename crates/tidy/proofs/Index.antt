@@ -6,15 +6,14 @@ use Prim.Native.Nat.{ℕ, _+_}
 use native.Mathlib.Omega.{arith}
 use lib.ListN.{length, getD, set}
 use lib.Seq.{sets}
-use Rattle.sizes.specs.Sizes.{mostWords, wordsOf, headerBytes}
-use Rattle.bigendian.specs.Number.{bytes}
+use Rattle.sizes.specs.Sizes.{mostWords, wordsOf, endCommand}
 use Rattle.line.specs.Line.{Line}
 use Rattle.rows.specs.declared.Header.{Header}
-use Rattle.sheet.specs.Reading.{accepted, reading}
+use Rattle.sheet.specs.Reading.{accepted, headerOf, reading}
 use Rattle.sheet.specs.Index.{Indexed}
 use Rattle.sheet.proofs.Sound.{Bytes}
 use Rattle.sheet.proofs.Uses.{size-is, line-sound}
-use Rattle.tidyform.specs.Tidy.{toneBytes, mapBytes, tidy}
+use Rattle.tidyform.specs.Tidy.{toneBytes, mapBytes, headBytes, tidy}
 use Rattle.tidyform.proofs.Length.{length-tidy}
 use Rattle.tidy.specs.Copies.{Inside, copies}
 use Rattle.tidy.proofs.Copies.{copies-are, maps-are}
@@ -36,13 +35,15 @@ module _ {s places maps : List ℕ} {h : Header} (x : Indexed s h places maps) w
       is-line : l ≡ x .line
       is-line = cc (x .means)
 
-      pub tidy-bytes : length (tidy l) ≡ headerBytes + 1 + length (copies (h .size) s places) + length (mapBytes mostWords maps)
-      tidy-bytes = rw is-line (omega (arith, length-tidy (x .line), ap length tones-are, ap length words-are))
+      pub tidy-bytes : length (tidy l) ≡ length (headBytes h) + length (copies (h .size) s places) + length (mapBytes mostWords maps) + endCommand
+      tidy-bytes =
+          let head : length (headBytes (headerOf (x .line))) ≡ length (headBytes h) = ap (λ (k : Header). length (headBytes k)) (x .header-is) in
+          rw is-line (omega (arith, length-tidy (x .line), head, ap length tones-are, ap length words-are))
 
       pub tidy-stores : (out : List ℕ)
-          → (let head = sets (set (sets (set (sets (set out 0 1) 1 (bytes 2 (h .size))) 3 2) 4 (bytes 2 (h .gap))) 6 3) 7 (bytes 8 (h .budget)) in
+          → (let head = headBytes h in
           let tones = copies (h .size) s places in
           let words = mapBytes mostWords maps in
-          set (sets (sets head headerBytes tones) (headerBytes + length tones) words) (headerBytes + length tones + length words) 7)
+          set (sets (sets (sets out 0 head) (length head) tones) (length head + length tones) words) (length head + length tones + length words) 7)
           ≡ sets out 0 (tidy l)
       tidy-stores out = rw is-line (sym (line-stores out (x .line) h _ _ (x .header-is) tones-are words-are))

@@ -7,16 +7,16 @@ use native.Mathlib.Numerals.{add-one}
 use native.Mathlib.Omega.{arith}
 use lib.ListN.{length, getD, set}
 use lib.Seq.{sets}
-use Rattle.sizes.specs.Sizes.{wordsOf, toneCommand, silenceCommand, headerBytes}
+use Rattle.sizes.specs.Sizes.{wordsOf, sizeCommand, toneCommand, silenceCommand}
 use Rattle.bigendian.specs.Number.{bytes}
 use Rattle.bigendian.proofs.Numbers.{length-bytes, bytes-one}
 use Rattle.bigendian.proofs.Stores.{Growing, sets-append}
 use Rattle.line.specs.Line.{Line}
 use Rattle.rows.specs.declared.Header.{Header}
-use Rattle.rows.specs.Rows.{gap, budget, end}
+use Rattle.rows.specs.Rows.{budget, end}
 use Rattle.rows.specs.Codes.{sizeRow, silenceRow}
 use Rattle.sheet.specs.Reading.{headerOf}
-use Rattle.tidyform.specs.Tidy.{written, toneBytes, mapBytes, tidy}
+use Rattle.tidyform.specs.Tidy.{written, toneBytes, mapBytes, gapBytes, headBytes, tidy}
 use Rattle.tidy.specs.Copies.{part, toneCopy, copies}
 use Rattle.tidy.proofs.Copies.{length-part}
 
@@ -55,21 +55,35 @@ word-stores out at word map h =
     ∙ sets-bytes _ (at + 2) 4 map [] (at + silenceCommand) (omega arith)
     ∙ rw (bytes-one word h))
 
+pub gap-stores : (out : List ℕ) (at g : ℕ) → sets out at (gapBytes g) ≡ sets (set out at 2) (at + 1) (bytes 2 g)
+unfolding gapBytes
+gap-stores out at g = rw add-one (sets-bytes (set out at 2) (suc at) 2 g [] (at + 3) (omega arith))
+
+-- the first three commands, the third at a place after the gap's
+pub head-stores : (out : List ℕ) (h : Header) (at : ℕ) → at ≡ sizeCommand + length (gapBytes (h .gap))
+    → sets out 0 (headBytes h) ≡ sets (set (sets (sets (set out 0 1) 1 (bytes 2 (h .size))) sizeCommand (gapBytes (h .gap))) at 3) (at + 1) (bytes 8 (h .budget))
+unfolding headBytes
+head-stores out h at e = rw e (between (gapBytes (h .gap)) (h .size) (h .budget))
+  where
+    between : (gap : List ℕ) (n b : ℕ) → sets out 0 (written sizeRow (n ∷ []) ++ gap ++ written budget (b ∷ []))
+        ≡ (let at = sizeCommand + length gap in sets (set (sets (sets (set out 0 1) 1 (bytes 2 n)) sizeCommand gap) at 3) (at + 1) (bytes 8 b))
+    between gap n b =
+        rw add-one (simp append-assoc (
+        sets-bytes (set out 0 1) 1 2 n _ sizeCommand refl
+        ∙ sets-append _ sizeCommand gap _
+        ∙ sets-bytes _ (suc (sizeCommand + length gap)) 8 b [] (sizeCommand + length gap + 9) (omega arith)))
+
 -- the first three commands, the tones, the words and the end
 pub line-stores : (out : List ℕ) (l : Line) (h : Header) (tones words : List ℕ) → headerOf l ≡ h → toneBytes (l .size) (l .entries) ≡ tones
     → mapBytes (wordsOf (l .size)) (l .maps) ≡ words
     → sets out 0 (tidy l)
-    ≡ (let head = sets (set (sets (set (sets (set out 0 1) 1 (bytes 2 (h .size))) 3 2) 4 (bytes 2 (h .gap))) 6 3) 7 (bytes 8 (h .budget)) in
-    set (sets (sets head headerBytes tones) (headerBytes + length tones) words) (headerBytes + length tones + length words) 7)
+    ≡ (let head = headBytes h in
+    set (sets (sets (sets out 0 head) (length head) tones) (length head + length tones) words) (length head + length tones + length words) 7)
 unfolding tidy
-line-stores out l h tones words e f g = rw (f, g, ← e) (stores (l .size) (l .gap) (l .budget))
+line-stores out l h tones words e f g = rw (f, g, ← e) (stores (headBytes (headerOf l)))
   where
-    stores : (n g b : ℕ) → sets out 0 (written sizeRow (n ∷ []) ++ written gap (g ∷ []) ++ written budget (b ∷ []) ++ tones ++ words ++ written end [])
-        ≡ set (sets (sets (sets (set (sets (set (sets (set out 0 1) 1 (bytes 2 n)) 3 2) 4 (bytes 2 g)) 6 3) 7 (bytes 8 b)) 15 tones) (15 + length tones) words) (15 + length tones + length words) 7
-    stores n g b =
-        simp append-assoc (
-        sets-bytes (set out 0 1) 1 2 n _ 3 refl
-        ∙ sets-bytes _ 4 2 g _ 6 refl
-        ∙ sets-bytes _ 7 8 b _ 15 refl
-        ∙ sets-append _ 15 tones _
-        ∙ sets-append _ _ words (7 ∷ []))
+    stores : (head : List ℕ) → sets out 0 (head ++ tones ++ words ++ written end [])
+        ≡ set (sets (sets (sets out 0 head) (length head) tones) (length head + length tones) words) (length head + length tones + length words) 7
+    stores head =
+        let z : 0 + length head ≡ length head = omega arith in
+        simp append-assoc (sets-append out 0 head _ ∙ rw z (sets-append _ (length head) tones _ ∙ sets-append _ _ words (7 ∷ [])))

@@ -13,14 +13,17 @@ ghost use Rattle.tidy.specs.Tidying.{tidying, tidyNumbers, tidyOutcome, 
 ghost use Rattle.tidy.specs.Copies.{copies};
 use refusals::Refusal;
 use sheet::Read;
-use sizes::HEADER_BYTES;
+use sizes::BUDGET_COMMAND;
+use sizes::END_COMMAND;
+use sizes::GAP_COMMAND;
 use sizes::SILENCE_COMMAND;
+use sizes::SIZE_COMMAND;
 use sizes::TONE_COMMAND;
 use sizes::TONES;
 use sizes::WORDS;
 
 // The bytes of a tidy form without tones: the first three commands and the end.
-const BARE_BYTES: usize = HEADER_BYTES + 1;
+const BARE_BYTES: usize = SIZE_COMMAND + GAP_COMMAND + BUDGET_COMMAND + END_COMMAND;
 
 // How many bytes the described tones take, in any sheet.
 fn tones_bytes(size: u16, places: &[u16; TONES]) -> usize

@@ -8,11 +8,13 @@ ghost use Rattle.lists.specs.Lent.{before, after};
 ghost use Rattle.line.specs.Line.{Line};
 ghost use Rattle.sheet.specs.Reading.{accepted, reading};
 ghost use Rattle.sheet.specs.Index.{Indexed};
-ghost use Rattle.tidyform.specs.Tidy.{wordBytes, mapBytes, tidy};
+ghost use Rattle.tidyform.specs.Tidy.{wordBytes, mapBytes, gapBytes, headBytes, tidy};
 ghost use Rattle.tidy.specs.Copies.{part, Inside, toneCopy, copies};
 use rows::Header;
-use sizes::HEADER_BYTES;
+use sizes::BUDGET_COMMAND;
+use sizes::GAP_COMMAND;
 use sizes::SILENCE_COMMAND;
+use sizes::SIZE_COMMAND;
 use sizes::TONE_COMMAND;
 use sizes::TONES;
 use sizes::WORDS;
@@ -91,6 +93,31 @@ fn put_words(out: &mut [u8], at: usize, maps: &[u32; WORDS]) -> usize
     place
 }
 
+// The gap's command, from a place on. Answers the place after it.
+fn put_gap(out: &mut [u8], at: usize, gap: u16) -> usize
+    requires { ⌜ at + length (gapBytes gap) ≤ length (now out) ⌝ }
+    ensures place { λ r. ⌜ r ≡ at + length (gapBytes gap) ⌝ }
+    ensures bytes { λ r. ⌜ after out ≡ sets (before out) at (gapBytes gap) ⌝ }
+{
+    out[at] = 2;
+    bigendian::put_number(out, at + 1, 2, gap as u64);
+    at + GAP_COMMAND
+}
+
+// The first three commands, from the buffer's start on. Answers the place after them.
+fn put_header(out: &mut [u8], header: Header) -> usize
+    requires { ⌜ length (headBytes header) ≤ length (now out) ⌝ }
+    ensures place { λ r. ⌜ r ≡ length (headBytes header) ⌝ }
+    ensures bytes { λ r. ⌜ after out ≡ sets (before out) 0 (headBytes header) ⌝ }
+{
+    out[0] = 1;
+    bigendian::put_number(out, 1, 2, header.size as u64);
+    let at = put_gap(out, SIZE_COMMAND, header.gap);
+    out[at] = 3;
+    bigendian::put_number(out, at + 1, 8, header.budget);
+    at + BUDGET_COMMAND
+}
+
 // The tidy form of the line that an index of the sheet stands for, from the buffer's start on.
 pub(crate) fn put_line(
     out: &mut [u8],
@@ -103,13 +130,8 @@ pub(crate) fn put_line(
     requires { ⌜ ((l : Line) → reading (now s) ≡ accepted l → length (tidy l) ≤ length (now out)) ⌝ }
     ensures { λ r. ⌜ ((l : Line) → reading (before s) ≡ accepted l → after out ≡ sets (before out) 0 (tidy l)) ⌝ }
 {
-    out[0] = 1;
-    bigendian::put_number(out, 1, 2, header.size as u64);
-    out[3] = 2;
-    bigendian::put_number(out, 4, 2, header.gap as u64);
-    out[6] = 3;
-    bigendian::put_number(out, 7, 8, header.budget);
-    let tones_end = put_tones(s, header.size, places, out, HEADER_BYTES);
+    let header_end = put_header(out, header);
+    let tones_end = put_tones(s, header.size, places, out, header_end);
     let words_end = put_words(out, tones_end, maps);
     out[words_end] = 7;
 }

@@ -9,7 +9,7 @@ use native.Mathlib.Omega.{arith}
 use lib.Bits.{bitOr}
 use lib.ListN.{length, getD, set, length-append}
 use lib.Seq.{getD-set-other}
-use Rattle.sizes.specs.Sizes.{mostTones, longestSheet, wordsOf, toneCommand, silenceCommand}
+use Rattle.sizes.specs.Sizes.{mostTones, longestSheet, wordsOf, sizeCommand, gapCommand, budgetCommand, toneCommand, silenceCommand, endCommand}
 use Rattle.lists.proofs.Stores.{all-same}
 use Rattle.bigendian.proofs.Numbers.{length-bytes}
 use Rattle.bigendian.proofs.Stores.{length-none, length-next}
@@ -17,8 +17,8 @@ use Rattle.line.specs.Line.{Entry, undescribed, described, Line}
 use Rattle.rows.specs.declared.Header.{Header}
 use Rattle.rows.specs.declared.Command.the-variants.{Describe, Silence}
 use Rattle.places.specs.Places.{toneAt}
-use Rattle.sheet.specs.Reading.{bareLine, effect}
-use Rattle.tidyform.specs.Tidy.{entryBytes, toneBytes, wordBytes, mapBytes, tidy}
+use Rattle.sheet.specs.Reading.{headerOf, bareLine, effect}
+use Rattle.tidyform.specs.Tidy.{entryBytes, toneBytes, wordBytes, mapBytes, gapBytes, headBytes, tidy}
 use Rattle.tidyform.proofs.Parts.{length-entry-le, length-word-le, tones-grow, words-grow}
 
 -- ---- what the first entries of a list add up to, where each counts by its number and value
@@ -92,19 +92,28 @@ maps = record {
 
 -- ---- the tidy form
 
--- 3 bytes for 01, 3 for 02, 9 for 03 and 1 for 07
-pub length-tidy : (l : Line) → length (tidy l) ≡ 16 + (length (toneBytes (l .size) (l .entries)) + length (mapBytes (wordsOf (l .size)) (l .maps)))
+-- 3 bytes for 01, those of the gap, 9 for 03
+pub length-head : (h : Header) → length (headBytes h) ≡ sizeCommand + length (gapBytes (h .gap)) + budgetCommand
+unfolding headBytes
+length-head h = simp (length-append, length-bytes)
+
+pub length-gap : (g : ℕ) → length (gapBytes g) ≡ gapCommand
+unfolding gapBytes
+length-gap g = simp (length-append, length-bytes)
+
+-- with 1 for 07
+pub length-tidy : (l : Line) → length (tidy l) ≡ length (headBytes (headerOf l)) + (length (toneBytes (l .size) (l .entries)) + length (mapBytes (wordsOf (l .size)) (l .maps))) + endCommand
 unfolding tidy
-length-tidy l = simp (length-append, length-bytes) (omega arith)
+length-tidy l = simp length-append (omega arith)
 
 -- at most 16 bytes, with 15 for each of 256 tones and 6 for each of 8 words
 pub tidy-short : (l : Line) → l .size ≤ mostTones → length (tidy l) ≤ longestSheet
 tidy-short l h =
     let words = wordsOf (l .size) in
-    omega (arith, length-tidy l, all-le tones toneCommand length-entry-le (l .size) (l .entries), all-le maps silenceCommand length-word-le words (l .maps))
+    omega (arith, length-tidy l, length-head (headerOf l), length-gap (l .gap), all-le tones toneCommand length-entry-le (l .size) (l .entries), all-le maps silenceCommand length-word-le words (l .maps))
 
 -- nothing described and nothing silenced
-pub tidy-bare : (h : Header) → length (tidy (bareLine h)) ≡ 16
+pub tidy-bare : (h : Header) → length (tidy (bareLine h)) ≡ length (headBytes h) + endCommand
 tidy-bare h =
     let words = wordsOf (h .size) in
     omega (

@@ -26,7 +26,7 @@ use Rattle.rows.specs.Rows.{gap, budget, end}
 use Rattle.rows.specs.Codes.{sizeRow, toneRow, silenceRow}
 use Rattle.sheet.specs.Reading.{accepted, readingIn, reading, emptyLine, afterCommand, go}
 use Rattle.sheet.proofs.Sound.{Sound}
-use Rattle.tidyform.specs.Tidy.{written, numbersOf, entryBytes, wordBytes, toneBytes, mapBytes, tidy}
+use Rattle.tidyform.specs.Tidy.{written, numbersOf, entryBytes, wordBytes, toneBytes, mapBytes, gapBytes, headBytes, tidy}
 use Rattle.tidyform.proofs.Parts.{row-is-tone}
 use Rattle.tidyform.proofs.Length.{tidy-short}
 use Rattle.tidyform.proofs.Written.{seenIn, Good, nothing, Reads, reads-written, reads-end}
@@ -68,7 +68,7 @@ module _ {A : Type 0} (absent : A) (room : ℕ) (xs : List A) where
 
 -- The reading of the tidy form.
 
-regroup : (a b c d e f : List ℕ) → a ++ b ++ c ++ d ++ e ++ f ≡ a ++ (b ++ (c ++ (d ++ (e ++ f))))
+regroup : (a b c d e f : List ℕ) → (a ++ b ++ c) ++ d ++ e ++ f ≡ a ++ (b ++ (c ++ (d ++ (e ++ f))))
 regroup a b c d e f = simp append-assoc
 
 -- the line when n tones and m maps have been read
@@ -156,18 +156,18 @@ module _ (l : Line) (S : Sound l) where
 
   -- the first three commands
   head-ends : (q : List ℕ) → Ends l q 0 0
-      → Reads (written sizeRow (l .size ∷ []) ++ (written gap (l .gap ∷ []) ++ (written budget (l .budget ∷ []) ++ q))) 0 emptyLine (accepted l)
-  unfolding part filled
+      → Reads (written sizeRow (l .size ∷ []) ++ (gapBytes (l .gap) ++ (written budget (l .budget ∷ []) ++ q))) 0 emptyLine (accepted l)
+  unfolding part filled gapBytes
   head-ends q ends =
       let I : LineInRange l = S .in-range in
       reads-written emptyLine 0 sizeRow (l .size ∷ []) _ refl (ranged 2 1 mostTones (l .size) (omega arith) (I .size-low) (I .size-high) nothing) (λ s at k d. refl)
       (reads-written _ 1 gap (l .gap ∷ []) _ refl (ranged 2 gapUnit 65535 (l .gap) (omega arith) (I .gap .low) (I .gap .high) nothing) (λ s at k d. refl)
       (reads-written _ 2 budget (l .budget ∷ []) q refl (ranged 8 0 mostPower (l .budget) (omega arith) (omega arith) (I .budget-high) nothing) (λ s at k d. refl) ends))
 
-  tidy-parts : tidy l ≡ written sizeRow (l .size ∷ []) ++ (written gap (l .gap ∷ []) ++ (written budget (l .budget ∷ [])
+  tidy-parts : tidy l ≡ written sizeRow (l .size ∷ []) ++ (gapBytes (l .gap) ++ (written budget (l .budget ∷ [])
       ++ (toneBytes (l .size) (l .entries) ++ (mapBytes (wordsOf (l .size)) (l .maps) ++ written end []))))
-  unfolding tidy
-  tidy-parts = regroup (written sizeRow (l .size ∷ [])) (written gap (l .gap ∷ [])) (written budget (l .budget ∷ [])) _ _ _
+  unfolding tidy headBytes
+  tidy-parts = regroup (written sizeRow (l .size ∷ [])) (gapBytes (l .gap)) (written budget (l .budget ∷ [])) _ _ _
 
   tidy-ends : Reads (tidy l) 0 emptyLine (accepted l)
   tidy-ends = rw tidy-parts (head-ends _ (tones-end (l .size) _ (omega arith) (maps-end (wordsOf (l .size)) _ (omega arith) (rw part-all (reads-end l)))))

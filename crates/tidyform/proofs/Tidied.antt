@@ -8,7 +8,9 @@ use native.Mathlib.Nat.{le-trans}
 use native.Mathlib.Omega.{arith}
 use lib.ListN.{length}
 use Rattle.bigendian.specs.Number.{number}
+use Rattle.sizes.specs.Sizes.{sizeCommand}
 use Rattle.line.specs.Line.{Line}
+use Rattle.rows.specs.declared.Header.{Header}
 use Rattle.rows.specs.Rows.{tone}
 use Rattle.rows.specs.Codes.{silenceRow}
 use Rattle.command.specs.Format.{today}
@@ -16,17 +18,17 @@ use Rattle.command.proofs.Walk.{Each}
 use Rattle.sheet.specs.Reading.{accepted, reading}
 use Rattle.sheet.proofs.Walk.{Leads, accepted-by}
 use Rattle.sheet.proofs.Sound.{Bytes, accepted-sound}
-use Rattle.tidyform.specs.Tidy.{tidy}
+use Rattle.tidyform.specs.Tidy.{gapBytes, tidy}
 use Rattle.tidyform.specs.Claims.{TidyKeeps}
-use Rattle.tidyform.proofs.Length.{tidy-short, tidy-bare, tidy-describe, tidy-silence}
+use Rattle.tidyform.proofs.Length.{length-gap, length-head, tidy-short, tidy-bare, tidy-describe, tidy-silence}
 use Rattle.tidyform.proofs.RoundTrip.{tidy-reads}
 
 -- After so many of the first three commands the sheet has their bytes, and after all three those of its line's tidy form but for the
 -- end command's.
 abbrev Long : (at stage : ℕ) → Line → Type 0
 Long at zero l = Unit {0}
-Long at (suc zero) l = 3 ≤ at
-Long at (suc (suc zero)) l = 6 ≤ at
+Long at (suc zero) l = sizeCommand ≤ at
+Long at (suc (suc zero)) l = sizeCommand + length (gapBytes (l .gap)) ≤ at
 Long at (suc (suc (suc n))) l = length (tidy l) ≤ at + 1
 
 module _ (s : List ℕ) where
@@ -35,9 +37,10 @@ module _ (s : List ℕ) where
 
   long : (at stage : ℕ) (l : Line) → Long at stage l → Each (Leads today s Long NoLonger at stage l) (today .rows stage)
   long at zero l h = (λ is inside p. omega arith, tt)
-  long at (suc zero) l h = (λ is inside p. omega arith, tt)
+  long at (suc zero) l h = (λ is inside p. omega (arith, length-gap (number s (at + 1) 2)), tt)
   long at (suc (suc zero)) l h =
-      (λ is inside p. omega (arith, tidy-bare (record { size = l .size; gap = l .gap; budget = number s (at + 1) 8 })), tt)
+      let k : Header = record { size = l .size; gap = l .gap; budget = number s (at + 1) 8 } in
+      (λ is inside p. omega (arith, tidy-bare k, length-head k), tt)
   long at (suc (suc (suc n))) l h = (described 4 false, (described 5 true, (silenced, (λ is inside p end. omega arith, tt))))
     where
       described : (code : ℕ) (single : Bool) → Leads today s Long NoLonger at (suc (suc (suc n))) l (tone code single)

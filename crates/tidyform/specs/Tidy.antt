@@ -10,8 +10,10 @@ use Rattle.bigendian.specs.Number.{bytes}
 use Rattle.line.specs.declared.Numbers.{Numbers}
 use Rattle.line.specs.Tone.{carried, isSingle}
 use Rattle.line.specs.Line.{Entry, undescribed, described, Line}
+use Rattle.rows.specs.declared.Header.{Header}
 use Rattle.rows.specs.Rows.{Row, Operand, gap, budget, end}
 use Rattle.rows.specs.Codes.{sizeRow, toneRow, silenceRow}
+use Rattle.sheet.specs.Reading.{headerOf}
 
 -- A command as bytes: its own, then its operands' values, each in its width.
 abbrev pub operandBytes : List Operand → (values : List ℕ) → List ℕ
@@ -42,9 +44,15 @@ unfoldable pub mapBytes : (count : ℕ) → (maps : List ℕ) → List ℕ
 mapBytes zero maps = []
 mapBytes (suc n) maps = mapBytes n maps ++ wordBytes n (getD maps n 0)
 
+-- '01, 02, 03'
+unfoldable pub gapBytes : (g : ℕ) → List ℕ
+gapBytes g = written gap (g ∷ [])
+
+unfoldable pub headBytes : Header → List ℕ
+unfolding gapBytes
+headBytes h = written sizeRow (h .size ∷ []) ++ gapBytes (h .gap) ++ written budget (h .budget ∷ [])
+
 -- 'The tidy form has 01, 02, 03, the described tones in rising number, then for each word .., then 07.'
 unfoldable pub tidy : Line → List ℕ
-unfolding toneBytes mapBytes
-tidy l =
-    written sizeRow (l .size ∷ []) ++ written gap (l .gap ∷ []) ++ written budget (l .budget ∷ []) ++ toneBytes (l .size) (l .entries)
-    ++ mapBytes (wordsOf (l .size)) (l .maps) ++ written end []
+unfolding toneBytes mapBytes headBytes
+tidy l = headBytes (headerOf l) ++ toneBytes (l .size) (l .entries) ++ mapBytes (wordsOf (l .size)) (l .maps) ++ written end []

@@ -8,6 +8,7 @@ use Rattle.sheet.specs.Reading.{accepted, reading}
 use Rattle.sheet.specs.Index.{Indexed}
 use Rattle.sheet.proofs.Uses.{indexed, refused-is, size-high}
 use Rattle.tidyform.specs.Tidy.{tidy}
+use Rattle.tidyform.proofs.Length.{length-gap, length-head}
 use Rattle.tidy.proofs.Index.{tidy-bytes}
 use Rattle.tidy.proofs.Outcomes.{turned-down, too-small, written}
 use borrow.Author.Needs.{needs}
@@ -24,7 +25,8 @@ counted : (c : tie.After-words-bytes) (l : Line) → reading (c .before .before 
 counted c l e =
     let k = c .before .before .before .before .before .before .before .before .before .before .before in
     let bytes = tidy-bytes (index (c .before .before .before .before .before)) (λ i. k .shared-slice-known .given i .fits) l e in
-    omega (arith, bytes, c .before .before .tones-bytes .ensures .0 (k .before .args .s .now), c .words-bytes .ensures .0)
+    let h = c .before .before .before .before .before .read2 .given .0 .0 in
+    omega (arith, bytes, length-head h, length-gap (h .gap), c .before .before .tones-bytes .ensures .0 (k .before .args .s .now), c .words-bytes .ensures .0)
 
 tones-bytes-requires : tie.Need-tones-bytes-requires
 tones-bytes-requires c κs = size-high (index (c .before .before)) (λ i. c .before .before .before .before .before .before .before .before .shared-slice-known .given i .fits)
