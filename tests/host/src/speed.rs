@@ -31,8 +31,9 @@ struct Shape {
 const CABLE_GAP: Gap = Gap::Whole(4057);
 const NO_GAP: Gap = Gap::Whole(256);
 
-const SHAPES: [Shape; 4] = [
+const SHAPES: [Shape; 5] = [
     Shape { name: "bound", bound: true, ties: false, gap: CABLE_GAP },
+    Shape { name: "bound, tenths", bound: true, ties: false, gap: Gap::Tenths(120) },
     Shape { name: "unbound", bound: false, ties: false, gap: CABLE_GAP },
     Shape { name: "bound, ties", bound: true, ties: true, gap: NO_GAP },
     Shape { name: "unbound, ties", bound: false, ties: true, gap: NO_GAP },
