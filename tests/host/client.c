@@ -1,4 +1,7 @@
-/* A client in C: the sample line of document 01 by all six calls, and refusals. */
+/*
+ * A client in C: the sample line of document 01 by all six calls, a gap in tenths of
+ * a decibel, and refusals.
+ */
 #include "toqhaymi.h"
 
 #include <inttypes.h>
@@ -148,6 +151,54 @@ static void make_tidy(void)
     expect_untouched("a byte after the tidy sheet", tidy, sizeof sheet, sizeof tidy);
 }
 
+/* The sample's table with ten times its powers. The sheet is tidy. */
+static void expect_ten_times(const uint8_t *bytes, size_t length)
+{
+    static const uint8_t bits[] = {3, 2, 1};
+    static const uint64_t powers[] = {210, 150, 30}, totals[] = {6, 390};
+    const uint64_t due[] = {length};
+
+    lend();
+    expect_answers("load_most",
+                   toqhaymi_load_most(bytes, length, table, sizeof table, answer, sizeof answer),
+                   2, totals);
+    expect_table(bits, powers);
+    lend();
+    expect_answers("tidy",
+                   toqhaymi_tidy(bytes, length, tidy, sizeof tidy, answer, sizeof answer), 1, due);
+    expect("the tidy sheet's difference", memcmp(tidy, bytes, length) != 0, 0);
+    expect_untouched("a byte after the tidy sheet", tidy, length, sizeof tidy);
+}
+
+/* A gap of 10 dB, as 2560/256 and as 100 tenths; masks and budget are ten times the sample's. */
+static void gap_in_tenths(void)
+{
+    uint8_t whole[sizeof sheet], tenths[sizeof sheet - 1];
+    int t;
+
+    memcpy(whole, sheet, sizeof sheet);
+    whole[4] = 2560 >> 8;
+    whole[5] = 2560 & 0xff;
+    whole[13] = 390 >> 8;
+    whole[14] = 390 & 0xff;
+    for (t = 0; t < TONES; t++) {
+        whole[15 + 15 * t + 13] = 1000 >> 8;
+        whole[15 + 15 * t + 14] = 1000 & 0xff;
+    }
+    memcpy(tenths, whole, 3);
+    tenths[3] = 0x08;
+    tenths[4] = 100;
+    memcpy(tenths + 5, whole + 6, sizeof whole - 6);
+    expect_ten_times(whole, sizeof whole);
+    expect_ten_times(tenths, sizeof tenths);
+    tenths[4] = 241;
+    lend();
+    expect_refusal("load_most",
+                   toqhaymi_load_most(tenths, sizeof tenths, table, sizeof table,
+                                      answer, sizeof answer),
+                   TOQHAYMI_OPERAND_OUT_OF_RANGE, 4);
+}
+
 static void refusals(void)
 {
     static const uint8_t above[TONES] = {0, 3, 0};
@@ -179,6 +230,7 @@ int main(void)
     check_and_load();
     refit();
     make_tidy();
+    gap_in_tenths();
     refusals();
     printf(wrong ? "some answers are wrong\n" : "all answers are right\n");
     return wrong;

@@ -1,6 +1,6 @@
 #!/usr/bin/env python3
-"""A model of document 01, written from the paper and the readings of docs/DECISIONS.md: reading a sheet with its refusals,
-check, tidy, the loadings and the re-fit. Plain and slow.
+"""A model of document 01 and of document 02's request W1, written from the papers and the readings of docs/DECISIONS.md: reading
+a sheet with its refusals, check, tidy, the loadings and the re-fit. Plain and slow.
 
   model.py < stdin > stdout      what the test program prints for a text of calls
   model.py --selftest            the paper's own statements
@@ -26,9 +26,11 @@ OPERANDS = {
     0x05: [("tone", 1), ("noise", 2), ("gain", 2), ("cap", 1), ("mask", 8)],
     0x06: [("word", 1), ("map", 4)],
     0x07: [],
+    0x08: [("tenths", 1)],
 }
 
-# "N tones, 1 to 256", "256 to 65,535", "0 to 2^47", "1 to 65,535", "word 1 (0 to 7)"; the cap goes by kind.
+# "N tones, 1 to 256", "256 to 65,535", "0 to 2^47", "1 to 65,535", "word 1 (0 to 7)", "one operand byte d from 0 to
+# 240"; the cap goes by kind.
 RANGES = {
     "size": (1, 256),
     "gap": (256, 65535),
@@ -37,15 +39,26 @@ RANGES = {
     "gain": (1, 65535),
     "mask": (0, 2**47),
     "word": (0, 7),
+    "tenths": (0, 240),
 }
 CAPS = {0x04: (0, 15), 0x05: (0, 7)}
 
 
+@functools.lru_cache(maxsize=None)
+def gap_of(tenths):
+    """The smallest whole g with g^100 at least 256^100 × 10^d. One by one; what is too small for a tenth less is too small here."""
+    g = gap_of(tenths - 1) if tenths > 0 else 0
+    while g**100 < 256**100 * 10**tenths:
+        g += 1
+    return g
+
+
 class Line:
-    """N, gap, budget, the described tones with what they carry, and the set of silenced tones."""
+    """N, gap, budget, the described tones with what they carry, and the set of silenced tones. "Which it was", 02 or 08, "belongs
+    to the line": `tenths` is the d of 08, and None where 02 gave the gap."""
 
     def __init__(self):
-        self.size = self.gap = self.budget = None
+        self.size = self.gap = self.tenths = self.budget = None
         self.tones = {}
         self.silenced = set()
 
@@ -54,9 +67,9 @@ class Line:
 
 
 def allowed(commands_read):
-    """01, 02, 03 come first, each once, in that order; then any number of 04, 05, 06; then 07."""
+    """01, 02, 03 come first, each once, in that order, and 08 "may stand where 02 stands"; then any number of 04, 05, 06; then 07."""
     if commands_read < 3:
-        return {commands_read + 1}
+        return [{0x01}, {0x02, 0x08}, {0x03}][commands_read]
     return {0x04, 0x05, 0x06, 0x07}
 
 
@@ -81,6 +94,8 @@ def act(line, command, values):
     if command in (0x01, 0x02, 0x03):
         (name, value), = values.items()
         setattr(line, name, value)
+    elif command == 0x08:
+        line.tenths, line.gap = values["tenths"], gap_of(values["tenths"])
     elif command in (0x04, 0x05):
         line.tones[values["tone"]] = (command, values["noise"], values["gain"], values["cap"], values["mask"])
     elif command == 0x06:
@@ -120,7 +135,9 @@ def check(sheet):
 
 
 def tidy_form(line):
-    out = b"\x01" + line.size.to_bytes(2, "big") + b"\x02" + line.gap.to_bytes(2, "big")
+    """"The tidy form keeps whichever command the sheet had"."""
+    out = b"\x01" + line.size.to_bytes(2, "big")
+    out += b"\x02" + line.gap.to_bytes(2, "big") if line.tenths is None else bytes([8, line.tenths])
     out += b"\x03" + line.budget.to_bytes(8, "big")
     for tone in sorted(line.tones):
         kind, noise, gain, cap, mask = line.tones[tone]
@@ -410,6 +427,10 @@ def sample(budget):
     return SAMPLE[:7] + budget.to_bytes(8, "big") + SAMPLE[15:]
 
 
+def sample_in_tenths(tenths):
+    return SAMPLE[:3] + bytes([8, tenths]) + SAMPLE[6:]
+
+
 def one_tone(kind, gap, noise, gain, cap, mask):
     line = Line()
     line.size, line.gap, line.budget, line.tones = 1, gap, 0, {0: (kind, noise, gain, cap, mask)}
@@ -468,8 +489,25 @@ def loading_selftest():
         assert loading.refit(table)[0] == loading.adding() and loading.refit(table)[1] <= sum(loading.limits)
 
 
+def tenths_selftest():
+    # "d = 0 gives 256, d = 100 gives 2,560 and d = 200 gives 25,600"; "a table of 241 entries", gaps that 02 could give.
+    assert [gap_of(tenths) for tenths in (0, 100, 200)] == [256, 2560, 25600]
+    assert all(256 <= gap_of(tenths) <= 65535 for tenths in range(241))
+    in_tenths, whole = sample_in_tenths(100), SAMPLE[:3] + b"\x02\x0a\x00" + SAMPLE[6:]
+    assert read(in_tenths).gap == read(whole).gap == 2560 and not read(in_tenths).same(read(whole))
+    assert loading_of(in_tenths).powers == loading_of(whole).powers
+    # "The tidy form keeps whichever command the sheet had".
+    assert tidy(in_tenths, 60) == in_tenths and tidy(whole, 61) == whole
+    # "d from 0 to 240"; "may stand where 02 stands".
+    assert [refusal(sample_in_tenths(d)) for d in (240, 241, 255)] == [(0, 0), (4, 4), (4, 4)]
+    assert refusal(in_tenths[:4]) == (2, 4) and all(refusal(in_tenths[:n]) == (2, n) for n in range(60))
+    assert refusal(in_tenths[3:5] + in_tenths) == (3, 0) and refusal(in_tenths[:5] + SAMPLE[3:]) == (3, 5)
+    assert refusal(SAMPLE[:6] + in_tenths[3:]) == (3, 6) and refusal(SAMPLE[:15] + in_tenths[3:5] + SAMPLE[15:]) == (3, 15)
+
+
 def selftest():
     loading_selftest()
+    tenths_selftest()
     assert len(SAMPLE) == 61
     # "Gap 256; tone 0 pair, noise 3, cap 15; tone 1 pair, noise 5, cap 2; tone 2 single, noise 1, cap 7; gains 1,
     # masks 100"; "the sample at 39".
@@ -481,7 +519,7 @@ def selftest():
     assert refusal(b"") == (2, 0)
     # "Bytes in all".
     totals = {c: 1 + sum(w for _, w in ops) for c, ops in OPERANDS.items()}
-    assert totals == {1: 3, 2: 3, 3: 9, 4: 15, 5: 15, 6: 6, 7: 1}
+    assert totals == {1: 3, 2: 3, 3: 9, 4: 15, 5: 15, 6: 6, 7: 1, 8: 2}
     # "tidying a tidy sheet returns it": the sample is tidy.
     assert tidy(SAMPLE, 61) == SAMPLE and tidy(SAMPLE, ROOM) == SAMPLE
     # "at most 4,096 bytes".
@@ -508,8 +546,10 @@ def selftest():
             within = max(0, min(32, size - 32 * word))
             commands.append(bytes([6, word]) + (dice.getrandbits(32) & dice.getrandbits(32) & ((1 << within) - 1)).to_bytes(4, "big"))
         dice.shuffle(commands)
-        sheet = b"\x01" + size.to_bytes(2, "big") + SAMPLE[3:15] + b"".join(commands) + b"\x07"
+        gap = dice.choice([b"\x02" + dice.randint(256, 65535).to_bytes(2, "big"), bytes([8, dice.randint(0, 240)])])
+        sheet = b"\x01" + size.to_bytes(2, "big") + gap + SAMPLE[6:15] + b"".join(commands) + b"\x07"
         out = tidy(sheet, ROOM)
+        assert out[3:].startswith(gap) and len(out) <= len(sheet)
         assert read(out).same(read(sheet)) and tidy(out, len(out)) == out and check(out) == check(sheet)
         assert set(read(out).tones) == {c[1] for c in commands if c[0] != 6}
 

@@ -1,7 +1,7 @@
 #!/usr/bin/env python3
 """Writes the text of calls for the test program, and holds the model to the answer noted beside each.
 
-  sheets.py SAMPLES-FOLDER       writes stdin (the calls) and stdout (what the model of document 01 answers)
+  sheets.py SAMPLES-FOLDER       writes stdin (the calls) and stdout (what the model of the papers answers)
 """
 import random, sys
 import model
@@ -99,6 +99,10 @@ def size(n=3):
 
 def gap(g=256):
     return b"\x02" + g.to_bytes(2, "big")
+
+
+def tenths(d):
+    return bytes([8, d])
 
 
 def budget(b=39):
@@ -210,8 +214,8 @@ add(head() + pair(1) + pair(1) + pair(1) + END, (6, 31))
 group("the first command is not 01")
 for byte in (0, 2, 3, 4, 5, 6, 7, 8, 255):
     add(bytes([byte]) + head() + END, (3, 0))
-group("the second is not 02")
-for byte in (0, 1, 3, 4, 7, 8):
+group("the second is neither 02 nor 08")
+for byte in (0, 1, 3, 4, 5, 6, 7, 9, 255):
     add(size() + bytes([byte]) + gap() + budget() + END, (3, 3))
 group("the third is not 03")
 for byte in (0, 1, 2, 4, 5, 6, 7, 255):
@@ -276,6 +280,73 @@ add(head() + silence(0, 8) + silence(8, 0) + END, (5, 17))
 add(head() + pair(1, 0) + b"\xff" + END + END, (4, 17))
 add(head() + b"\xff" + pair(3), (3, 15))
 add(head() + pair(1) + pair(1) + END + END, (6, 31))
+
+
+def in_tenths(d, sheet):
+    """A sheet whose gap 02 gives, with 08 in its place."""
+    return sheet[:3] + tenths(d) + sheet[6:]
+
+
+group("W1: 08 with 0, 1, 99, 100, 101, 200, 239, 240, 241, 255")
+for d in (0, 1, 99, 100, 101, 200, 239, 240):
+    add(size() + tenths(d) + budget() + END, (3, 0, 0))
+for d in (241, 255):
+    add(size() + tenths(d) + budget() + END, (4, 4))
+group("W1: a sheet with 08, cut at every length up to the end of its budget, and before its end")
+whole = in_tenths(100, whole)
+for n in [*range(4, 15), len(whole) - 1]:
+    add(whole[:n], (2, n))
+add(whole, (3, 2, 1))
+group("W1: 4,095 bytes, the most that a sheet with 08 can have; a byte more, two bytes more")
+longest = in_tenths(240, head() + NOTHING * 680 + END)
+add(longest, (3, 0, 0))
+add(longest + END, (7, 4095))
+add(longest + END + END, (1, 0))
+group("W1: 08 first, twice, after 02, before 02, after 03, among the tones, before the end, after it")
+add(tenths(100) + size() + budget() + END, (3, 0))
+add(size() + tenths(100) + tenths(100) + budget() + END, (3, 5))
+add(size() + gap() + tenths(0) + budget() + END, (3, 6))
+add(size() + tenths(0) + gap() + budget() + END, (3, 5))
+add(size() + budget() + tenths(100) + END, (3, 3))
+add(head() + tenths(0) + END, (3, 15))
+add(in_tenths(0, head()) + tenths(0) + END, (3, 14))
+add(in_tenths(0, head()) + gap() + END, (3, 14))
+add(head() + pair(1) + tenths(100) + single(2) + END, (3, 30))
+add(in_tenths(100, head()) + pair(1) + silence(0, 2) + tenths(100) + END, (3, 35))
+add(in_tenths(100, head()) + END + tenths(100), (7, 15))
+group("W1: after 08 not 03, but 04, 07, an unknown command or nothing; one of 02 and 08 taken for the other")
+for other in (pair(1), END, b"\x09", b"\xff"):
+    add(size() + tenths(100) + other, (3, 5))
+add(size() + tenths(100), (2, 5))
+add(size() + b"\x08" + gap()[1:] + budget() + END, (3, 5))
+add(size() + b"\x02" + tenths(100)[1:] + budget() + END, (3, 6))
+group("W1, two faults: not allowed (3) before cut off (2), cut off before out of range (4); the earlier command first")
+add(b"\x08", (3, 0))
+add(size() + gap() + b"\x08", (3, 6))
+add(head() + b"\x08", (3, 15))
+add(size(0) + b"\x08", (4, 1))
+add(size(257) + tenths(241) + budget() + END, (4, 1))
+add(size() + tenths(241), (4, 4))
+add(size() + tenths(241) + b"\xff", (4, 4))
+add(size() + tenths(241) + budget(TOP + 1) + END, (4, 4))
+add(size() + tenths(240) + budget(TOP + 1) + END, (4, 6))
+group("W1: the places after 08 are one less: 4, 5, 6 and 7 of a tone, a map and an end")
+add(in_tenths(100, head() + pair(1, 0) + END), (4, 16))
+add(in_tenths(100, head() + single(1, 3, 1, 8) + END), (4, 20))
+add(in_tenths(100, head() + silence(8, 0) + END), (4, 15))
+add(in_tenths(100, head() + pair(3) + END), (5, 15))
+add(in_tenths(100, head() + silence(0, 8) + END), (5, 16))
+add(in_tenths(100, head() + pair(1) + single(1) + END), (6, 30))
+add(in_tenths(100, model.SAMPLE + b"\x00"), (7, 60))
+group("W1, tidy: 08 is kept, and so is 02 with the gap of the same tenths; one byte less with 08")
+for sheet in (in_tenths(100, model.SAMPLE), model.SAMPLE[:3] + gap(2560) + model.SAMPLE[6:]):
+    add(sheet, (3, 3, 0))
+assert len(model.tidy_form(model.read(in_tenths(0, model.SAMPLE)))) == len(model.SAMPLE) - 1
+group("W1, tidy: tones in falling order, maps that join, maps that are dropped")
+for d in (0, 120, 240):
+    add(in_tenths(d, head() + NOTHING + single(2, 1, 1, 7) + silence(0, 1) + pair(1, 5, 1, 2) + silence(0, 5) + pair(0, 3, 1, 15) + END),
+        (3, 3, 2))
+add(in_tenths(8, head(256) + silence(7, 2) + single(255) + silence(0, 8) + pair(8) + silence(3, 0) + END), (256, 2, 2))
 
 group("tidy: nothing described, nothing silenced; each end of the numbers")
 add(size(1) + gap(65535) + budget(0) + END, (1, 0, 0))
@@ -378,6 +449,60 @@ for kind, largest in [(4, 15), (5, 7)]:
     for cap in (0, 1, largest):
         most(line(1, TOP, tone(kind, 0, 1, 1, cap, TOP)), [cap])
     most(line(1, TOP, tone(kind, 0, 1, 1, largest, 0)), [0])
+
+group("W1: the gap that 08 gives, as the power of one bit at noise 256, gain 1; a cost that it rounds up, at noise 1")
+for d, g in [(0, 256), (1, 262), (99, 2502), (100, 2560), (101, 2620), (120, 4058), (200, 25600), (239, 62841), (240, 64305)]:
+    sheet = in_tenths(d, line(1, TOP, pair(0, 256, 1, 1, TOP)))
+    # A whole number of 1/256 only at 0, 100 and 200; between them the gap is rounded up.
+    assert g**100 >= 256**100 * 10**d > (g - 1)**100 and model.loading_of(sheet).power(0, 1) == g
+    most(sheet, [1])
+for d, cost in [(0, 1), (1, 2), (100, 10), (101, 11), (200, 100), (240, 252)]:
+    for kind, power in [(4, cost), (5, 3 * cost)]:
+        for b, bits in [(power - 1, [0]), (power, [1])]:
+            most(in_tenths(d, line(1, b, tone(kind, 0, 1, 1, 1, TOP))), bits)
+group("W1: a mask and a budget that 12 dB as 08 of 120, 4058, break and the nearest gap, 4057, keeps")
+for g, bits in [(4057, [1]), (4058, [0])]:
+    for b, mask in [(TOP, 4057), (4057, TOP)]:
+        most(size(1) + gap(g) + budget(b) + pair(0, 256, 1, 1, mask) + END, bits)
+for b, mask, bits in [(TOP, 4057, [0]), (4057, TOP, [0]), (4058, 4058, [1])]:
+    most(in_tenths(120, line(1, b, pair(0, 256, 1, 1, mask))), bits)
+
+
+def alike(call, *rest):
+    """A call on the sample line with all powers ten times as large, at a budget: the gap 2,560 from 02, and then from 08 of 100."""
+    *before, b, answer = rest
+    whole = size() + gap(2560) + budget(b) + pair(0, 3, 1, 15, 1000) + pair(1, 5, 1, 2, 1000) + single(2, 1, 1, 7, 1000) + END
+    assert model.loading_of(whole).powers == model.loading_of(in_tenths(100, whole)).powers
+    for sheet in (whole, in_tenths(100, whole)):
+        call(*before, sheet, answer)
+
+
+group("W1: 02 with 2,560 and 08 with 100 load alike: most bits at 390, 389, 1,710; targets 6, 7 at 390; 11 at 1,710")
+for b, bits in [(390, [3, 2, 1]), (389, [2, 2, 1]), (1710, [5, 2, 3])]:
+    alike(most, b, bits)
+alike(target, 6, 390, [3, 2, 1])
+alike(target, 7, 390, (11, 0))
+alike(target, 11, 1710, (11, 0))
+group("W1: 02 with 2,560 and 08 with 100 re-fit alike, from 0, 2, 3 at 390 and at 380, and from the full table; and step by step")
+alike(refit, [0, 2, 3], 390, ([3, 2, 1], 3))
+alike(refit, [0, 2, 3], 380, ([2, 2, 1], 2))
+alike(refit, [5, 2, 3], 390, ([3, 2, 1], 4))
+for start, end in [([0, 2, 3], ([1, 2, 2], 1)), ([1, 2, 2], ([2, 2, 1], 1)), ([2, 2, 1], ([3, 2, 1], 1)), ([3, 2, 1], ([3, 2, 1], 0))]:
+    alike(step, start, 390, end)
+group("W1: limits that the gap of 08 lowers: 9 before 10, and 10 at the first tone above its limit")
+dear = in_tenths(100, line(3, TOP, pair(0, 3, 1, 15, 100), pair(1, 5, 1, 2, 100), single(2, 1, 1, 7, 100)))
+assert model.loading_of(dear).limits == [2, 1, 1]
+most(dear, [2, 1, 1])
+refit([2, 1, 1], dear, ([2, 1, 1], 0))
+refit([2, 2, 2], dear, (10, 1))
+step([3, 1, 1], dear, (10, 0))
+refit([3, 1], dear, (9, 0))
+group("W1: a damaged sheet with 08 before all")
+for sheet, answer in [(in_tenths(241, sample(39)), (4, 4)), (in_tenths(100, sample(39))[:-1], (2, 59)), (size() + b"\x08", (2, 4))]:
+    most(sheet, answer)
+    target(LARGEST, sheet, answer)
+    refit([255], sheet, answer)
+    step([], sheet, answer)
 
 group("budgets at each end of the sample line's run, and one below; 0 and 2^47")
 assert ends(sample(0)) == [3, 6, 11, 17, 27, 39, 51, 75, 123, 171]

@@ -2,9 +2,9 @@
 
 use crate::paper::line::{LARGEST_POWER, LARGEST_SHEET};
 use crate::random::Random;
-use crate::sheets::{commands, fill, silence, some_silence, tone, Commands};
+use crate::sheets::{commands, fill, silence, some_silence, tone, whole_gap, Commands};
 
-pub const WAYS: usize = 14;
+pub const WAYS: usize = 16;
 
 /// A sheet damaged in one of the ways; any byte string, in some of them.
 pub fn damaged(random: &mut Random, way: usize) -> Vec<u8> {
@@ -33,6 +33,7 @@ pub fn damaged(random: &mut Random, way: usize) -> Vec<u8> {
         10 => Vec::new(),
         11 => too_long(random, commands),
         12 => cut_in_command(random, commands),
+        13 | 14 => gap_at_fault(random, commands),
         _ => twice(random, commands),
     }
 }
@@ -70,7 +71,7 @@ fn appended(random: &mut Random, mut sheet: Vec<u8>) -> Vec<u8> {
     let count = random.pick(&[1, 1, 2, 15, 200]);
     let any = random.bytes(count);
     match random.below(3) {
-        0 => sheet.extend(vec![random.pick(&[0, 4, 6, 7]); count]),
+        0 => sheet.extend(vec![random.pick(&[0, 4, 6, 7, 8]); count]),
         1 => sheet.extend(sheet.clone()),
         _ => sheet.extend(any),
     }
@@ -120,8 +121,7 @@ fn beyond(random: &mut Random, commands: &mut Commands) -> usize {
             return 0;
         }
         1 => {
-            let gap: u16 = random.pick(&[0, 1, 255, 256, 65_535]);
-            commands[1][1..].copy_from_slice(&gap.to_be_bytes());
+            commands[1] = gap_command(random);
             return 1;
         }
         2 => {
@@ -146,6 +146,33 @@ fn beyond(random: &mut Random, commands: &mut Commands) -> usize {
     place
 }
 
+/// Either command of the gap, at an end of its range or beyond it, or with any operand.
+fn gap_command(random: &mut Random) -> Vec<u8> {
+    let any = random.next();
+    match random.once_in(2) {
+        true => whole_gap(random.pick(&[0, 1, 255, 256, 65_535, any as u16])),
+        false => vec![8, random.pick(&[0, 239, 240, 241, 255, any as u8])],
+    }
+}
+
+/// The command of the gap is another, comes twice, stands elsewhere, has the byte
+/// of the one for the other, or the sheet ends inside it.
+fn gap_at_fault(random: &mut Random, mut commands: Commands) -> Vec<u8> {
+    let new = gap_command(random);
+    match random.below(6) {
+        0 => commands[1] = new,
+        1 => commands.insert(random.pick(&[1, 2]), new),
+        2 => commands.insert(random.below(commands.len() + 1), new),
+        3 => {
+            let gap = commands.remove(1);
+            commands.insert(random.below(commands.len() + 1), gap);
+        }
+        4 => commands[1][0] = if commands[1][0] == 2 { 8 } else { 2 },
+        _ => return [&commands[0], &new[..random.below(new.len())]].concat(),
+    }
+    commands.concat()
+}
+
 /// A tone or a map that names a tone from N on. The place of its command.
 fn not_on_line(random: &mut Random, commands: &mut Commands) -> usize {
     let first = tones(commands).min(255);
@@ -167,7 +194,7 @@ fn any_bytes(random: &mut Random) -> Vec<u8> {
     if random.once_in(2) {
         sheet[0] = 1;
     } else if random.once_in(2) {
-        sheet.iter_mut().for_each(|byte| *byte %= 8);
+        sheet.iter_mut().for_each(|byte| *byte %= 9);
     }
     sheet
 }
@@ -205,11 +232,12 @@ fn cut_in_command(random: &mut Random, mut commands: Commands) -> Vec<u8> {
 fn twice(random: &mut Random, mut commands: Commands) -> Vec<u8> {
     for _ in 0..2 {
         let place = gap_between(random, &commands);
-        match random.below(5) {
+        match random.below(6) {
             0 => commands.insert(place, vec![random.pick(&[0, 1, 8])]),
             1 => commands.insert(place, some_silence(random, 256)),
-            2 => _ = repeated(random, &mut commands),
-            3 => _ = not_on_line(random, &mut commands),
+            2 => commands[1] = gap_command(random),
+            3 => _ = repeated(random, &mut commands),
+            4 => _ = not_on_line(random, &mut commands),
             _ => _ = beyond(random, &mut commands),
         }
     }

@@ -1,13 +1,14 @@
 //! What a call is given: sheet, starting table, target and buffer lengths, all
-//! from a seed and an index. Seed 0 is the sample sheet of document 01 with one
-//! byte changed, cut off or added, in every way; other seeds are random.
+//! from a seed and an index. Seed 0 is the sample sheet of document 01, and then one
+//! with its gap in tenths of a decibel, each with one byte changed, cut off or added,
+//! in every way; other seeds are random.
 
 use crate::damage::{damaged, WAYS};
 use crate::paper::line::{read, Line};
 use crate::paper::run::Running;
 use crate::paper::{tidy_length, ANSWER_BYTES, BYTES_A_TONE};
 use crate::random::Random;
-use crate::sheets::{commands, SAMPLE};
+use crate::sheets::{commands, IN_TENTHS, SAMPLE};
 
 pub struct Input {
     pub sheet: Vec<u8>,
@@ -19,8 +20,14 @@ pub struct Input {
     pub answer: Vec<u8>,
 }
 
-/// How many inputs seed 0 has: each byte at each value, each cut, each byte added.
-pub const SAMPLE_INPUTS: u64 = 61 * 256 + 61 + 256;
+/// How many inputs a sheet of seed 0 makes: each byte at each value, each cut, each
+/// byte added.
+const fn changes(sheet: &[u8]) -> usize {
+    256 * sheet.len() + sheet.len() + 256
+}
+
+/// How many inputs seed 0 has.
+pub const SAMPLE_INPUTS: u64 = (changes(&SAMPLE) + changes(&IN_TENTHS)) as u64;
 
 pub fn input(seed: u64, index: u64) -> Input {
     let mut random = Random::new(seed, index);
@@ -42,16 +49,24 @@ pub fn sheet(random: &mut Random, index: u64) -> Vec<u8> {
     }
 }
 
-fn sample_input(random: &mut Random, index: usize) -> Input {
-    let mut sheet = SAMPLE.to_vec();
-    let value = (index % 256) as u8;
+/// A sheet with the change of an index.
+fn changed(sheet: &[u8], index: usize) -> Vec<u8> {
+    let mut sheet = sheet.to_vec();
+    let (length, value) = (sheet.len(), (index % 256) as u8);
     match index / 256 {
-        place @ 0..61 => sheet[place] = value,
-        _ if index < 61 * 257 => sheet.truncate(index - 61 * 256),
+        place if place < length => sheet[place] = value,
+        _ if index < 257 * length => sheet.truncate(index - 256 * length),
         _ => sheet.push(value),
     }
+    sheet
+}
+
+fn sample_input(random: &mut Random, index: usize) -> Input {
     Input {
-        sheet,
+        sheet: match index.checked_sub(changes(&SAMPLE)) {
+            None => changed(&SAMPLE, index),
+            Some(index) => changed(&IN_TENTHS, index),
+        },
         start: vec![0, 2, 3],
         target: 6,
         table: random.bytes(256 * BYTES_A_TONE),

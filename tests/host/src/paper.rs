@@ -1,13 +1,15 @@
-//! An independent loader, written from document 01: the six calls as the C host
-//! makes them, and what the bench program prints. It keeps each tone's next free
-//! and last held step; each move scans all of them for the earliest free and the
-//! latest held.
+//! An independent loader, written from document 01 and document 02's request W1:
+//! the six calls as the C host makes them, and what the bench program prints. It
+//! keeps each tone's next free and last held step; each move scans all of them for
+//! the earliest free and the latest held.
 
+pub mod gap;
 pub mod line;
 pub mod run;
 #[cfg(test)]
 mod sample;
 
+use gap::Gap;
 use line::{read, Kind, Line, Tone};
 use run::Running;
 
@@ -125,6 +127,16 @@ impl Tidy<'_> {
         self.length += bytes.len();
     }
 
+    fn put_gap(&mut self, gap: Gap) {
+        match gap {
+            Gap::Whole(gap) => {
+                self.put(&[2]);
+                self.put(&gap.to_be_bytes());
+            }
+            Gap::Tenths(tenths) => self.put(&[8, tenths]),
+        }
+    }
+
     fn put_tone(&mut self, number: usize, tone: &Tone) {
         self.put(&[if tone.kind == Kind::Pair { 4 } else { 5 }, number as u8]);
         self.put(&tone.noise.to_be_bytes());
@@ -136,8 +148,7 @@ impl Tidy<'_> {
     fn put_line(&mut self, line: &Line) {
         self.put(&[1]);
         self.put(&(line.tones as u16).to_be_bytes());
-        self.put(&[2]);
-        self.put(&(line.gap as u16).to_be_bytes());
+        self.put_gap(line.gap);
         self.put(&[3]);
         self.put(&line.budget.to_be_bytes());
         for (number, tone) in line.described.iter().enumerate() {
@@ -157,7 +168,7 @@ impl Tidy<'_> {
 
 pub fn tidy_length(line: &Line) -> usize {
     let words = line.silenced.iter().filter(|map| **map != 0).count();
-    3 + 3 + 9 + 15 * line.count_described() as usize + 6 * words + 1
+    3 + line.gap.length() + 9 + 15 * line.count_described() as usize + 6 * words + 1
 }
 
 pub fn tidy(sheet: &[u8], tidy: &mut [u8], answer: &mut [u8]) -> u64 {

@@ -2,10 +2,11 @@
 
 use crate::compare::hex;
 use crate::inputs;
+use crate::paper::gap::{Gap, MOST_TENTHS};
 use crate::paper::line::LARGEST_SHEET;
 use crate::paper::printed;
 use crate::random::Random;
-use crate::sheets::{bare, silence, SAMPLE};
+use crate::sheets::{bare, silence, IN_TENTHS, SAMPLE};
 use std::io::{ErrorKind, Write};
 use std::path::{Path, PathBuf};
 use std::process::{Command, Stdio};
@@ -17,19 +18,27 @@ const SEED: u64 = 2;
 /// The examples that there must be.
 const EXAMPLES: [&str; 5] = ["long_cable", "refused", "sample", "short_cable", "spliced_pair"];
 /// Sheets that any comparison should have, before the random ones.
-const FIXED: u64 = 9;
+const FIXED: u64 = 13;
 
-/// A sheet of exactly 4,096 bytes that is accepted.
-fn longest() -> Vec<u8> {
-    let mut commands = bare(64, 256, 1000);
-    while commands.concat().len() < LARGEST_SHEET {
+/// A sheet as long as one that is accepted can be: 4,096 bytes, or 4,095 where the
+/// gap is in tenths.
+fn longest(gap: Gap) -> Vec<u8> {
+    let mut commands = bare(64, gap, 1000);
+    while commands.concat().len() + 6 <= LARGEST_SHEET {
         commands.insert(3, silence(0, 0));
     }
     commands.concat()
 }
 
+/// The sheet in tenths, with another number of them.
+fn in_tenths(tenths: u8) -> Vec<u8> {
+    let mut sheet = IN_TENTHS.to_vec();
+    sheet[4] = tenths;
+    sheet
+}
+
 fn sheet(index: u64) -> Vec<u8> {
-    let long = longest();
+    let long = longest(Gap::Whole(256));
     match index {
         0 => Vec::new(),
         1 => SAMPLE.to_vec(),
@@ -40,6 +49,10 @@ fn sheet(index: u64) -> Vec<u8> {
         6 => [&SAMPLE[..], &[0; 200_000]].concat(),
         7 => vec![1; 4097],
         8 => long[..4095].to_vec(),
+        9 => IN_TENTHS.to_vec(),
+        10 => in_tenths(MOST_TENTHS),
+        11 => in_tenths(MOST_TENTHS + 1),
+        12 => longest(Gap::Tenths(100)),
         FIXED.. => inputs::sheet(&mut Random::new(SEED, index), index),
     }
 }

@@ -1,5 +1,6 @@
 //! Valid line sheets from a seed.
 
+use crate::paper::gap::{Gap, MOST_TENTHS};
 use crate::paper::line::{cost, power, read, Kind, LARGEST_POWER, LARGEST_SHEET};
 use crate::paper::run::Running;
 use crate::random::Random;
@@ -13,6 +14,16 @@ pub const SAMPLE: [u8; 61] = [
     4, 0, 0, 3, 0, 1, 15, 0, 0, 0, 0, 0, 0, 0, 100, //
     4, 1, 0, 5, 0, 1, 2, 0, 0, 0, 0, 0, 0, 0, 100, //
     5, 2, 0, 1, 0, 1, 7, 0, 0, 0, 0, 0, 0, 0, 100, 7,
+];
+
+/// A sheet with its gap in tenths of a decibel. Noise 256 and gain 1 make the gap
+/// the cost of tone 0, whose first step is the earliest at any number of tenths, and
+/// fits: so its power shows the gap.
+pub const IN_TENTHS: [u8; 60] = [
+    1, 0, 3, 8, 100, 3, 0, 0, 0, 0, 0, 1, 0x11, 0x70, //
+    4, 0, 1, 0, 0, 1, 15, 0, 0, 0, 0, 0, 1, 0, 0, //
+    4, 1, 1, 44, 0, 1, 2, 0, 0, 0, 0, 0, 1, 0, 0, //
+    5, 2, 0, 100, 0, 1, 7, 0, 0, 0, 0, 0, 1, 0, 0, 7,
 ];
 
 /// How the tones of one line compare.
@@ -30,7 +41,7 @@ enum Likeness {
 /// What the tones of one line have in common.
 struct Plan {
     tones: usize,
-    gap: u64,
+    gap: Gap,
     likeness: Likeness,
     /// Noise and gain, where they are the same for all.
     equal: (u16, u16),
@@ -53,18 +64,26 @@ fn tones(random: &mut Random) -> usize {
     random.between(low, high) as usize
 }
 
+/// A gap, two in five of them in tenths of a decibel; of 256, if costs are to be small.
+fn some_gap(random: &mut Random, small: bool) -> Gap {
+    let in_tenths = random.below(5) < 2;
+    let any = random.between(256, 65_535) as u16;
+    let any_tenths = random.between(0, MOST_TENTHS.into()) as u8;
+    match (small, in_tenths) {
+        (true, false) => Gap::Whole(256),
+        (true, true) => Gap::Tenths(0),
+        (false, false) => Gap::Whole(random.pick(&[256, 257, 65_535, any, any])),
+        (false, true) => Gap::Tenths(random.pick(&[0, 1, 100, 240, any_tenths, any_tenths])),
+    }
+}
+
 impl Plan {
     fn new(random: &mut Random, tones: usize) -> Plan {
         use Likeness::*;
         let likeness = random.pick(&[Equal, Ties, Ties, Cable, Edges, Any]);
-        let any = random.between(256, 65_535);
-        let gap = match likeness {
-            Ties => 256,
-            _ => random.pick(&[256, 257, 65_535, any, any]),
-        };
         Plan {
             tones,
-            gap,
+            gap: some_gap(random, matches!(likeness, Ties)),
             likeness,
             equal: random.pick(&[(17, 5), (1, 1), (65_535, 1), (1, 65_535)]),
             singles: random.pick(&[0, 1, 2, 4]),
@@ -110,7 +129,7 @@ impl Plan {
             2 => random.between(0, u64::from(most)) as u8,
             _ => most,
         };
-        let mask = self.mask(random, kind, cost(self.gap, noise, gain), most);
+        let mask = self.mask(random, kind, cost(self.gap.value(), noise, gain), most);
         tone(single, number as u8, noise, gain, cap, mask)
     }
 }
@@ -146,11 +165,20 @@ pub fn some_silence(random: &mut Random, tones: usize) -> Vec<u8> {
     silence(word as u8, map & within)
 }
 
+pub fn whole_gap(gap: u16) -> Vec<u8> {
+    let mut bytes = vec![2];
+    bytes.extend(gap.to_be_bytes());
+    bytes
+}
+
 /// The first three commands, the end command, and nothing described.
-pub fn bare(tones: usize, gap: u64, budget: u64) -> Commands {
-    let mut commands = vec![vec![1], vec![2], vec![3], vec![7]];
+pub fn bare(tones: usize, gap: Gap, budget: u64) -> Commands {
+    let gap = match gap {
+        Gap::Whole(gap) => whole_gap(gap),
+        Gap::Tenths(tenths) => vec![8, tenths],
+    };
+    let mut commands = vec![vec![1], gap, vec![3], vec![7]];
     commands[0].extend((tones as u16).to_be_bytes());
-    commands[1].extend((gap as u16).to_be_bytes());
     commands[2].extend(budget.to_be_bytes());
     commands
 }
@@ -240,4 +268,17 @@ pub fn small(seed: u64, index: u64) -> Vec<u8> {
     let mut random = Random::new(seed, index);
     let tones = random.between(1, 3) as usize;
     commands_of(&mut random, tones).concat()
+}
+
+#[cfg(test)]
+mod tests {
+    use super::*;
+
+    /// Of the sheets that are made, each command that gives the gap has a good share.
+    #[test]
+    fn gaps_of_both_commands() {
+        let gap = |index| commands(&mut Random::new(1, index))[1][0];
+        let in_tenths = (0..500).filter(|&index| gap(index) == 8).count();
+        assert!((150..250).contains(&in_tenths), "{in_tenths} of 500 sheets have 08");
+    }
 }

@@ -2,6 +2,7 @@
 
 use crate::calls::{self, Buffer, Call};
 use crate::inputs::Input;
+use crate::paper::gap::Gap;
 use crate::paper::line::{read, Line, LARGEST_POWER};
 use crate::paper::run::Running;
 use crate::sheets::{bare, silence, tone};
@@ -23,19 +24,25 @@ struct Shape {
     /// Whether the budget carries half of what the limits allow, or all.
     bound: bool,
     ties: bool,
+    gap: Gap,
 }
 
-const SHAPES: [Shape; 4] = [
-    Shape { name: "bound", bound: true, ties: false },
-    Shape { name: "unbound", bound: false, ties: false },
-    Shape { name: "bound, ties", bound: true, ties: true },
-    Shape { name: "unbound, ties", bound: false, ties: true },
+/// 12 dB.
+const CABLE_GAP: Gap = Gap::Whole(4057);
+const NO_GAP: Gap = Gap::Whole(256);
+
+const SHAPES: [Shape; 5] = [
+    Shape { name: "bound", bound: true, ties: false, gap: CABLE_GAP },
+    Shape { name: "bound, tenths", bound: true, ties: false, gap: Gap::Tenths(120) },
+    Shape { name: "unbound", bound: false, ties: false, gap: CABLE_GAP },
+    Shape { name: "bound, ties", bound: true, ties: true, gap: NO_GAP },
+    Shape { name: "unbound, ties", bound: false, ties: true, gap: NO_GAP },
 ];
 
 impl Shape {
     /// Gain falls and noise rises; single tones at both ends; two silenced.
     fn sheet(self, tones: usize) -> Vec<u8> {
-        let mut commands = bare(tones, if self.ties { 256 } else { 4057 }, LARGEST_POWER);
+        let mut commands = bare(tones, self.gap, LARGEST_POWER);
         for number in 0..tones {
             let share = number * 256 / tones;
             let (noise, gain) = match self.ties {

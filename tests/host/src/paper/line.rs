@@ -1,5 +1,6 @@
 //! A tone's cost, power and limit, and the reading of a sheet.
 
+use super::gap::{Gap, MOST_TENTHS};
 use super::{refuse, Refusal};
 
 pub const TONES: usize = 256;
@@ -27,7 +28,7 @@ pub struct Tone {
 #[derive(Clone, Copy, Debug, PartialEq, Eq)]
 pub struct Line {
     pub tones: usize,
-    pub gap: u64,
+    pub gap: Gap,
     pub budget: u64,
     pub described: [Option<Tone>; TONES],
     pub silenced: [u32; 8],
@@ -75,20 +76,29 @@ fn operand(sheet: &[u8], at: usize, width: usize, low: u64, high: u64) -> Result
     Ok(operand)
 }
 
-/// The command at a place, if it is from first to last and its operands are there.
-fn command(sheet: &[u8], at: usize, first: u8, last: u8) -> Result<u8, Refusal> {
-    const WIDTHS: [usize; 8] = [0, 3, 3, 9, 15, 15, 6, 1];
+/// The command at a place, if it is allowed and its operands are there.
+fn command(sheet: &[u8], at: usize, allowed: impl Fn(u8) -> bool) -> Result<u8, Refusal> {
+    const WIDTHS: [usize; 9] = [0, 3, 3, 9, 15, 15, 6, 1, 2];
     if at >= sheet.len() {
         return refuse(2, sheet.len());
     }
     let command = sheet[at];
-    if command < first || command > last {
+    if !allowed(command) {
         return refuse(3, at);
     }
     if sheet.len() - at < WIDTHS[usize::from(command)] {
         return refuse(2, sheet.len());
     }
     Ok(command)
+}
+
+/// Command 02, or 08 in its place.
+fn read_gap(sheet: &[u8], at: usize) -> Result<Gap, Refusal> {
+    let most_tenths = MOST_TENTHS.into();
+    match command(sheet, at, |byte| byte == 2 || byte == 8)? {
+        2 => Ok(Gap::Whole(operand(sheet, at + 1, 2, 256, 65_535)? as u16)),
+        _ => Ok(Gap::Tenths(operand(sheet, at + 1, 1, 0, most_tenths)? as u8)),
+    }
 }
 
 fn read_tone(line: &mut Line, sheet: &[u8], at: usize, kind: Kind) -> Result<(), Refusal> {
@@ -126,16 +136,16 @@ pub fn read(sheet: &[u8]) -> Result<Line, Refusal> {
     if sheet.len() > LARGEST_SHEET {
         return refuse(1, 0);
     }
-    command(sheet, 0, 1, 1)?;
+    command(sheet, 0, |byte| byte == 1)?;
     let tones = operand(sheet, 1, 2, 1, TONES as u64)? as usize;
-    command(sheet, 3, 2, 2)?;
-    let gap = operand(sheet, 4, 2, 256, 65_535)?;
-    command(sheet, 6, 3, 3)?;
-    let budget = operand(sheet, 7, 8, 0, LARGEST_POWER)?;
+    let gap = read_gap(sheet, 3)?;
+    let mut at = 3 + gap.length();
+    command(sheet, at, |byte| byte == 3)?;
+    let budget = operand(sheet, at + 1, 8, 0, LARGEST_POWER)?;
     let mut line = Line { tones, gap, budget, described: [None; TONES], silenced: [0; 8] };
-    let mut at = 15;
+    at += 9;
     loop {
-        match command(sheet, at, 4, 7)? {
+        match command(sheet, at, |byte| (4..=7).contains(&byte))? {
             4 => read_tone(&mut line, sheet, at, Kind::Pair)?,
             5 => read_tone(&mut line, sheet, at, Kind::Single)?,
             6 => read_silence(&mut line, sheet, at)?,

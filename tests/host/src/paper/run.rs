@@ -39,10 +39,11 @@ impl Running {
             total_bits: 0,
             total_power: 0,
         };
+        let gap = line.gap.value();
         for (number, tone) in line.described[..line.tones].iter().enumerate() {
             let Some(tone) = tone else { continue };
             run.kind[number] = tone.kind;
-            run.cost[number] = cost(line.gap, tone.noise, tone.gain);
+            run.cost[number] = cost(gap, tone.noise, tone.gain);
             if !line.is_silenced(number) {
                 run.limit[number] = limit(tone, run.cost[number]);
             }

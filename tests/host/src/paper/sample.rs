@@ -1,4 +1,4 @@
-//! The independent loader on document 01's own cases, and by exhaustion.
+//! The independent loader on the papers' own cases, and by exhaustion.
 
 use super::line::{cost, limit, read, Kind, Tone, LARGEST_POWER};
 use super::run::{Running, Step};
@@ -14,6 +14,12 @@ fn sample(budget: u64) -> Vec<u8> {
     sheet.extend([4, 1, 0, 5, 0, 1, 2, 0, 0, 0, 0, 0, 0, 0, 100]);
     sheet.extend([5, 2, 0, 1, 0, 1, 7, 0, 0, 0, 0, 0, 0, 0, 100, 7]);
     sheet
+}
+
+/// The same sheet with another command for its gap.
+fn with_gap(budget: u64, gap: &[u8]) -> Vec<u8> {
+    let sheet = sample(budget);
+    [&sheet[..3], gap, &sheet[6..]].concat()
 }
 
 /// A call's returned number, the table's bits, its powers, and the three answers.
@@ -96,6 +102,55 @@ fn costs_and_limits() {
     for (mask, bits) in [(2, 0), (3, 1), (8, 1), (9, 2)] {
         let tone = Tone { kind: Kind::Pair, noise: 3, gain: 1, cap: 15, mask };
         assert_eq!(limit(&tone, 3), bits);
+    }
+}
+
+fn refusal(sheet: &[u8]) -> (u32, usize) {
+    read(sheet).map_or_else(|refusal| (refusal.number, refusal.place), |_| (0, 0))
+}
+
+/// 08 gives a gap that 02 could give, and the loading is the same.
+#[test]
+fn tenths_load_as_their_gap() {
+    for (tenths, gap) in [(0, 256_u16), (100, 2_560), (200, 25_600)] {
+        let [high, low] = gap.to_be_bytes();
+        for budget in [0, 39, 390, 3_900, LARGEST_POWER] {
+            let in_tenths = with_gap(budget, &[8, tenths]);
+            let whole = with_gap(budget, &[2, high, low]);
+            assert_eq!(printed(&in_tenths), printed(&whole));
+            assert_ne!(read(&in_tenths), read(&whole));
+        }
+    }
+}
+
+/// The tidy form has the command that the sheet had.
+#[test]
+fn tidying_keeps_tenths() {
+    for gap in [&[8, 100][..], &[8, 0], &[8, 240], &[2, 10, 0]] {
+        let sheet = with_gap(39, gap);
+        let (mut written, mut answer) = (vec![0; sheet.len()], [0; 24]);
+        assert_eq!(tidy(&sheet, &mut written, &mut answer), 0);
+        assert_eq!((&written, value(&answer)), (&sheet, sheet.len() as u64));
+        written.pop();
+        assert_eq!(tidy(&sheet, &mut written, &mut answer), 8 << 32);
+    }
+}
+
+/// 08 stands where 02 stands and nowhere else; d is from 0 to 240.
+#[test]
+fn tenths_refused() {
+    for (tenths, due) in [(0, (0, 0)), (240, (0, 0)), (241, (4, 4)), (255, (4, 4))] {
+        assert_eq!(refusal(&with_gap(39, &[8, tenths])), due);
+    }
+    assert_eq!(refusal(&[1, 0, 3, 8]), (2, 4));
+    assert_eq!(refusal(&[8, 100, 1, 0, 3]), (3, 0));
+    assert_eq!(refusal(&with_gap(39, &[8, 100, 8, 100])), (3, 5));
+    assert_eq!(refusal(&with_gap(39, &[8, 100, 2, 1, 0])), (3, 5));
+    assert_eq!(refusal(&with_gap(39, &[2, 1, 0, 8, 100])), (3, 6));
+    let sheet = sample(39);
+    for place in [15, 30, 60] {
+        let among = [&sheet[..place], &[8, 100], &sheet[place..]].concat();
+        assert_eq!(refusal(&among), (3, place));
     }
 }
 
