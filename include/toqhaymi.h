@@ -17,7 +17,8 @@
  * null. Sheet and start are only read.
  *
  * Sheet.  A line sheet, at most 4096 bytes. Its first command gives N, the
- *         number of tones, 1 to 256.
+ *         number of tones, 1 to 256. Its second gives the gap, in 1/256 (02) or
+ *         in tenths of a decibel (08).
  * Table.  9 bytes a tone, from tone 0 up: its bits, then its power in 8 bytes,
  *         high byte first. At least 9 x N bytes.
  * Start.  A starting table: one byte of bits a tone. Exactly N bytes.
@@ -49,10 +50,10 @@ extern "C" {
 #endif
 
 /* The version of the calls and of this header. */
-#define TOQHAYMI_VERSION "1.0.1"
+#define TOQHAYMI_VERSION "1.1.0"
 #define TOQHAYMI_VERSION_MAJOR 1
-#define TOQHAYMI_VERSION_MINOR 0
-#define TOQHAYMI_VERSION_PATCH 1
+#define TOQHAYMI_VERSION_MINOR 1
+#define TOQHAYMI_VERSION_PATCH 0
 
 /* The most stack that a call takes, in bytes. */
 #define TOQHAYMI_STACK_BYTES 16384
@@ -164,8 +165,9 @@ uint64_t toqhaymi_refit_step(const uint8_t *sheet, size_t sheet_length,
                              uint8_t *answer, size_t answer_length);
 
 /*
- * Writes the same line as a tidy sheet: tones in rising order, then one silence
- * command for each word that silences a tone.
+ * Writes the same line as a tidy sheet: the gap by the command that the sheet
+ * had, tones in rising order, then one silence command for each word that
+ * silences a tone.
  * Answers: the tidy sheet's length.
  * Refusals: 1 to 8.
  */

@@ -10,15 +10,17 @@ use lib.ListN.{length, getD, set, replicate, List·getD-eq-default}
 use Rattle.sizes.specs.Sizes.{mostTones, wordTones}
 use Rattle.lists.proofs.Stores.{Filled, filled-none, filled-more, filled-all}
 use Rattle.silence.specs.Map.{bit, silenced}
+use Rattle.gaps.specs.Gap.{parts, PartsInRange, GapInRange}
+use Rattle.gaps.proofs.Rule.{parts-in-range}
 use Rattle.line.specs.declared.Steps.{Steps}
-use Rattle.line.specs.Tone.{Gap}
-use Rattle.line.specs.Line.{undescribed, described, Line, entryOf, EntryInRange, noSteps, entrySteps, stepsAt}
+use Rattle.line.specs.Line.{undescribed, described, Line, gapOf, entryOf, EntryInRange, noSteps, entrySteps, stepsAt}
 use Rattle.line.specs.Arrays.{arrays, ArraysOf}
 use Rattle.rows.specs.declared.Header.{Header}
 use Rattle.places.specs.Places.{toneAt, entryAt}
 use Rattle.sheet.specs.Index.{Indexes, Indexed}
 use Rattle.sheet.specs.Reading.{reading}
 use Rattle.sheet.proofs.Sound.{Bytes, Sound, accepted-sound}
+use Rattle.sheet.proofs.Uses.{size-is, gap-is, line-in-range}
 use Rattle.arrays.specs.Tones.{HoldsLineOf}
 
 -- the first i tones of a line are in the arrays, and nothing past them
@@ -45,7 +47,7 @@ filling-more F more high s e = record {
 nothing-past : (l : Line) → length (l .entries) ≡ l .size → (k : ℕ) → l .size ≤ k → stepsAt l k ≡ noSteps
 nothing-past l e k h = rw (List·getD-eq-default (l .entries) undescribed {n = k} (omega arith)) (none (silenced (l .maps) k))
   where
-    none : (q : Bool) → entrySteps (l .gap) undescribed q ≡ noSteps
+    none : (q : Bool) → entrySteps (gapOf l) undescribed q ≡ noSteps
     none true = refl
     none false = refl
 
@@ -68,7 +70,7 @@ module _ {s places maps : List ℕ} {l : Line} (x : Indexes s places maps l) (i 
   pub same-silence : silenced maps i ≡ silenced (l .maps) i
   same-silence = ap (λ (m : ℕ). eqb (bit m (i % wordTones)) 1) (sym (x .map (i / wordTones)))
 
-  pub placed-steps : (gap : ℕ) → gap ≡ l .gap → entrySteps gap (entryAt s (getD places i 0)) (silenced maps i) ≡ stepsAt l i
+  pub placed-steps : (gap : ℕ) → gap ≡ gapOf l → entrySteps gap (entryAt s (getD places i 0)) (silenced maps i) ≡ stepsAt l i
   placed-steps gap e = rw (e, same-silence, ← x .entry i)
 
   pub placed-in-range : EntryInRange (entryOf l i) → EntryInRange (entryAt s (getD places i 0))
@@ -84,6 +86,10 @@ pub entry-none : (s : List ℕ) (p : ℕ) → p < 1 → entryAt s p ≡ undescri
 entry-none s zero h = refl
 entry-none s (suc p) h = absurd (omega arith)
 
+-- the gap of a header is in range
+pub header-gap : {s places maps : List ℕ} {h : Header} → Bytes s → Indexed s h places maps → GapInRange (h .gap)
+header-gap b x = rw (gap-is x) at (line-in-range x b .gap)
+
 -- an index of a sheet, and the first i tones of its line in the arrays
 pub record FillingOf (s : List ℕ) (h : Header) (places maps limits costs doublings : List ℕ) (i : ℕ) : Type 0 where
   pub indexed : Indexed s h places maps
@@ -94,33 +100,27 @@ module _ {s places maps limits costs doublings : List ℕ} {h : Header} {i : ℕ
   abbrev line : Line
   line = F .indexed .line
 
-  pub size-is : line .size ≡ h .size
-  size-is = ap (λ (x : Header). x .size) (F .indexed .header-is)
-
-  gap-is : h .gap ≡ line .gap
-  gap-is = ap (λ (x : Header). x .gap) (sym (F .indexed .header-is))
-
-  pub gap-in-range : Gap (h .gap)
-  gap-in-range = rw gap-is (F .sound .in-range .gap)
+  pub gap-in-range : PartsInRange (parts (h .gap))
+  gap-in-range = rw (← gap-is (F .indexed)) (parts-in-range (line .gap) (F .sound .in-range .gap))
 
   pub tone-in-range : i < h .size → EntryInRange (entryAt s (getD places i 0))
-  tone-in-range l = placed-in-range (F .indexed .indexes) i (F .sound .in-range .entries i (omega (arith, size-is)))
+  tone-in-range l = placed-in-range (F .indexed .indexes) i (F .sound .in-range .entries i (omega (arith, size-is (F .indexed))))
 
   pub size-high : h .size ≤ mostTones
-  size-high = omega (arith, size-is, F .sound .in-range .size-high)
+  size-high = omega (arith, size-is (F .indexed), F .sound .in-range .size-high)
 
   -- one tone more, as the code finds it at its place
-  pub filled-next : i < h .size → (q : Bool) → q ≡ silenced maps i → (x : Steps) → x ≡ entrySteps (h .gap) (entryAt s (getD places i 0)) q
+  pub filled-next : i < h .size → (q : Bool) → q ≡ silenced maps i → (x : Steps) → x ≡ entrySteps (parts (h .gap)) (entryAt s (getD places i 0)) q
       → FillingOf s h places maps (set limits i (x .limit)) (set costs i (x .cost)) (set doublings i (x .doublings)) (i + 1)
   filled-next l q silent x e = record {
     indexed = F .indexed;
     sound = F .sound;
-    filling = filling-more (F .filling) (omega (arith, size-is)) (F .sound .in-range .size-high) x (rw silent at e ∙ placed-steps (F .indexed .indexes) i (h .gap) gap-is);
+    filling = filling-more (F .filling) (omega (arith, size-is (F .indexed))) (F .sound .in-range .size-high) x (rw silent at e ∙ placed-steps (F .indexed .indexes) i (parts (h .gap)) (ap parts (sym (gap-is (F .indexed)))));
   }
 
   -- all of them are in
   pub filled-line : h .size ≤ i → HoldsLineOf (reading s) (arrays limits costs doublings)
-  filled-line l = rw (F .indexed .means) (F .sound .in-range, filling-all (F .sound) (F .filling) (omega (arith, size-is)))
+  filled-line l = rw (F .indexed .means) (F .sound .in-range, filling-all (F .sound) (F .filling) (omega (arith, size-is (F .indexed))))
 
 pub filling-starts : {s places maps : List ℕ} {h : Header} → Bytes s → Indexed s h places maps
     → FillingOf s h places maps (replicate mostTones 0) (replicate mostTones 0) (replicate mostTones 0) 0

@@ -2,7 +2,7 @@
 // sheet, once.
 ghost use mathlib.Core.Path.{_≡_};
 ghost use Rattle.lists.specs.Lent.{before};
-ghost use Rattle.line.specs.Tone.{Gap};
+ghost use Rattle.gaps.specs.Gap.{PartsInRange};
 ghost use Rattle.line.specs.Line.{EntryInRange, entrySteps};
 ghost use Rattle.line.specs.Arrays.{arraysBefore, arraysAfter};
 ghost use Rattle.places.specs.Places.{entryAt};
@@ -17,7 +17,7 @@ use sizes::WORDS;
 
 // What the runs need of the tone whose command stands at a place: nothing where none does, or where it is silenced.
 fn steps_at(s: &[u8], gap: u16, place: u16, silenced: bool) -> Steps
-    requires { ⌜ Gap gap ⌝ }
+    requires { ⌜ PartsInRange gap ⌝ }
     requires { ⌜ EntryInRange (entryAt (now s) place) ⌝ }
     ensures { λ r. ⌜ r ≡ entrySteps gap (entryAt (before s) place) «silenced» ⌝ }
 {
@@ -49,6 +49,8 @@ fn fill_arrays(
     requires { ⌜ Indexed (now s) header (now places) (now maps) ⌝ }
     ensures { λ r. ⌜ HoldsLineOf (reading (before s)) (arraysAfter limits costs doublings) ⌝ }
 {
+    let gap = header.gap;
+    let parts = gaps::parts(gap);
     *limits = [0; TONES];
     *costs = [0; TONES];
     *doublings = [0; TONES];
@@ -56,7 +58,7 @@ fn fill_arrays(
     while i < header.size as usize {
         let tone = i as u8;
         let silenced = silence::is_silenced(maps, tone);
-        let steps = steps_at(s, header.gap, places[i], silenced);
+        let steps = steps_at(s, parts, places[i], silenced);
         limits[i] = steps.limit;
         costs[i] = steps.cost;
         doublings[i] = steps.doublings;

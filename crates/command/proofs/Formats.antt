@@ -12,8 +12,8 @@ use Rattle.bigendian.specs.Number.{number}
 use Rattle.refusals.specs.declared.Refusal.{Refusal}
 use Rattle.rows.specs.declared.Header.{Header}
 use Rattle.rows.specs.declared.Command.{Command}
-use Rattle.rows.specs.Rows.{Seen, Operand, Row, within, silence, rowsOf, width, withCode, judged, operandsFrom, rowAt}
-use Rattle.command.specs.Format.{Format, formatOf, isRefused, Covers, Covered, Within}
+use Rattle.rows.specs.Rows.{Seen, Operand, Row, within, silence, tenthsRows, rowsOf, width, withCode, judged, operandsFrom, rowAt}
+use Rattle.command.specs.Format.{Format, formatOf, document01, today, isRefused, Covers, Covered, Within}
 use Rattle.command.proofs.Walk.{in-within}
 
 -- what holds of the elements of two lists, one by one
@@ -133,3 +133,7 @@ more-rows (r ∷ rs) extra code = by (eqb code (r .code)) (more-rows rs extra co
         → Covered (cond t (some r) (withCode rs code)) (cond t (some r) (withCode (rs ++ extra) code))
     by true c = covers-same r
     by false c = c
+
+-- W1: the format with 08 takes what document 01's takes
+pub tenths-within : Within document01 today
+tenths-within = record { no-longer = omega arith; covered = λ stage code. more-rows (document01 .rows stage) (tenthsRows stage) code }

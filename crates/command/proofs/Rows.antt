@@ -86,7 +86,7 @@ none-found none e = refl
 none-found (some r) e = absurd (true≢false e)
 
 pub row-found : (stage code : ℕ) → isRow (withCode (today .rows stage) code) ≡ true → withCode (today .rows stage) code ≡ some (rowOf code)
-row-found stage code h = by (withCode (today .rows stage) code) (found-today Own (search needs) stage code) h
+row-found stage code h = by (withCode (today .rows stage) code) (found-today Own (search needs depth 12) stage code) h
   where
     Own : Row → Type 0
     Own r = rowOf (r .code) ≡ r

@@ -1,4 +1,5 @@
--- What a format allows, and the command at a place of a sheet. Document 01, 'The line sheet' and 'Why a sheet is turned down'.
+-- What a format allows, and the command at a place of a sheet. Document 01, 'The line sheet' and 'Why a sheet is turned down'; document 02,
+-- W1.
 -- Assumes nothing.
 use mathlib.Core.Bool.{Bool, true, false, cond}
 use mathlib.Core.List.{List}
@@ -14,7 +15,7 @@ use Rattle.rows.specs.declared.Header.{Header}
 use Rattle.rows.specs.declared.Command.{Command}
 use Rattle.rows.specs.declared.Command.the-variants.{End, Refused, Head, Describe, Silence}
 use Rattle.rows.specs.declared.Decoded.{Decoded}
-use Rattle.rows.specs.Rows.{Row, width, rowsOf, withCode, rowAt, wholeRow}
+use Rattle.rows.specs.Rows.{Row, width, firstRows, rowsOf, withCode, rowAt, wholeRow}
 
 -- The most tones, the silence words, the longest sheet, and the commands allowed after so many of the first three.
 pub record Format : Type 0 where
@@ -23,11 +24,15 @@ pub record Format : Type 0 where
   pub bytes : ℕ
   pub rows : (stage : ℕ) → List Row
 
--- document 01's commands, with so many tones, words and bytes
+-- the commands of document 01 and of the requests, with so many tones, words and bytes
 abbrev pub formatOf : (tones words bytes : ℕ) → Format
 formatOf tones words bytes = record { tones = tones; words = words; bytes = bytes; rows = rowsOf tones words }
 
--- document 01's format
+-- document 01's own format, with none of the requests' commands
+abbrev pub document01 : Format
+document01 = record { tones = mostTones; words = mostWords; bytes = longestSheet; rows = firstRows mostTones mostWords }
+
+-- the format that is read
 abbrev pub today : Format
 today = formatOf mostTones mostWords longestSheet
 

@@ -18,7 +18,7 @@ fn is_allowed(stage: u8, code: u8) -> bool
         return code == 1;
     }
     if stage == 1 {
-        return code == 2;
+        return code == 2 || code == 8;
     }
     if stage == 2 {
         return code == 3;

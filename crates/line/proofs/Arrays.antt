@@ -12,9 +12,11 @@ use Rattle.lists.proofs.Stores.{all-same}
 use Rattle.silence.specs.Map.{silenced}
 use Rattle.steps.specs.Tones.{Tones, step, Rising, Table, _!_, noBits, sum, totalBits}
 use Rattle.steps.proofs.Sums.{sum-zero, sum-eq}
+use Rattle.gaps.specs.Gap.{PartsInRange}
+use Rattle.gaps.proofs.Rule.{parts-in-range}
 use Rattle.line.specs.declared.Steps.{Steps}
-use Rattle.line.specs.Tone.{Gap, cost, doublings, limit}
-use Rattle.line.specs.Line.{Entry, undescribed, described, Line, entryOf, entryLimit, tones, EntryInRange, LineInRange, noSteps, entrySteps, stepsAt}
+use Rattle.line.specs.Tone.{cost, doublings, limit}
+use Rattle.line.specs.Line.{Entry, undescribed, described, Line, gapOf, entryOf, entryLimit, tones, EntryInRange, LineInRange, noSteps, entrySteps, stepsAt}
 use Rattle.line.specs.Arrays.{Arrays, costAt, doublingsAt, stepSize, ArraysInRange, Under, Describes, StandsFor, ArraysOf}
 use Rattle.line.proofs.Ceiling.{cost-range}
 use Rattle.line.proofs.Growth.{doublings-low, shift-at-most}
@@ -32,7 +34,7 @@ record Small (s : Steps) : Type 0 where
 none-small : Small noSteps
 none-small = record { cost-low = λ h. omega arith; cost-high = omega arith; shift-high = omega arith }
 
-small : (g : ℕ) (e : Entry) (q : Bool) → Gap g → EntryInRange e → Small (entrySteps g e q)
+small : (g : ℕ) (e : Entry) (q : Bool) → PartsInRange g → EntryInRange e → Small (entrySteps g e q)
 small g e true G I = none-small
 small g undescribed false G I = none-small
 small g (described t) false G I =
@@ -59,12 +61,12 @@ module _ (l : Line) (I : LineInRange l) (A : Arrays) (h : ArraysOf l A) where
   }
     where
       at : (i : ℕ) → i < l .size → Small (stepsAt l i)
-      at i il = small (l .gap) (entryOf l i) (silenced (l .maps) i) (I .gap) (I .entries i il)
+      at i il = small (gapOf l) (entryOf l i) (silenced (l .maps) i) (parts-in-range (l .gap) (I .gap)) (I .entries i il)
 
   pub line-describes : Describes (l .size) A (tones l)
   line-describes = record {
     same-count = refl;
-    same-limit = λ i il. limit-same (l .gap) (entryOf l i) (silenced (l .maps) i) ∙ sym (h .limit-at i);
+    same-limit = λ i il. limit-same (gapOf l) (entryOf l i) (silenced (l .maps) i) ∙ sym (h .limit-at i);
     same-power = λ i b il bl. rw (h .cost-at i, h .doublings-at i) (line-power l I i b bl);
   }
 

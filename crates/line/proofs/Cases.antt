@@ -1,10 +1,10 @@
--- Every starred case holds: one test, computed over the list of rows, that gives a proof of each row that passes.
+-- Every case of the list holds: one test, computed over the list of rows, that gives a proof of each row that passes.
 -- Assumes nothing.
-use mathlib.Core.Path.{_≡_, refl}
+use mathlib.Core.Path.{_≡_, refl, sym}
 use mathlib.Core.Bool.{Bool, true, false}
 use mathlib.Core.List.{List, [], _∷_}
 use mathlib.Core.Option.{Option, none, some}
-use Prim.Native.Nat.{ℕ, zero, suc, _<_}
+use Prim.Native.Nat.{ℕ, zero, suc, _≤_, _<_}
 use native.Mathlib.Decide.{decLt, decLe, ℕ-discrete}
 use native.Mathlib.Omega.{arith}
 use borrow.Author.Needs.{needs}
@@ -13,10 +13,12 @@ use lib.ListN.{length}
 use Rattle.steps.specs.Tones.{step, before?, Table, powers, sum, list, totalBits, totalPower, sumOfLimits}
 use Rattle.steps.specs.Runs.{against, choice, earliestFree, latestHeld, Answer, moved, finished, fits?, takeIfFits, giveUpOrTake, refitMove, addStep, addStepTo, refitStep, follow, run, mostBits, refitRun, carrying, setBits}
 use Rattle.steps.proofs.SetBits.{too-many}
+use Rattle.gaps.specs.Gap.{mostTenths, gapOfTenths}
+use Rattle.gaps.proofs.Rule.{right, right-is}
 use Rattle.line.specs.declared.Kind.the-variants.{Pair}
 use Rattle.line.specs.Tone.{cost, kindPower, largest, limit}
 use Rattle.line.specs.Line.{EntryInRange, entryOf, LineInRange}
-use Rattle.line.specs.Cases.{Case, most, granted, refused, never, refits, costs, limits, tone, sample, sampleTones, Through, CaseHolds, cases}
+use Rattle.line.specs.Cases.{Case, most, granted, refused, never, refits, costs, limits, tenths, tone, sample, sampleTones, Through, CaseHolds, cases}
 use Rattle.line.proofs.Loads.{line-rising, no-bits-fit}
 
 -- ---- tests that give a proof where they pass
@@ -24,6 +26,10 @@ use Rattle.line.proofs.Loads.{line-rising, no-bits-fit}
 unfoldable test : {A : Type 0} → Dec A → Option A
 test (yes a) = some a
 test (no m) = none
+
+unfoldable true? : (b : Bool) → Option (T b)
+true? true = some tt
+true? false = none
 
 unfoldable both : {A B : Type 0} → Option A → Option B → Option (A × B)
 both (some a) (some b) = some (a, b)
@@ -80,10 +86,16 @@ never-carried : (target : ℕ) → sumOfLimits sampleTones < target → (budget 
 never-carried target h budget =
     too-many sampleTones (line-rising (sample 0) sample-in-range) budget (no-bits-fit (sample 0) sample-in-range budget) target h
 
+-- ---- a gap in tenths of a decibel
+
+-- that the number is right tells the gap without a search
+is-gap : (d g : ℕ) → T (right d g) × (d ≤ mostTenths) → gapOfTenths d ≡ g
+is-gap d g p = sym (right-is d g (p .0) (p .1))
+
 -- ---- the rows
 
 unfoldable row : (r : Case) → Option (CaseHolds r)
-unfolding test both onward same sameAnswer sameLoading through
+unfolding test true? both onward same sameAnswer sameLoading through
 row (most budget bits power allBits allPower) =
     both (both (same (mostBits sampleTones budget .table) bits) (same (powers sampleTones bits) power))
     (both (test (ℕ-discrete (totalBits sampleTones bits) allBits)) (test (ℕ-discrete (totalPower sampleTones bits) allPower)))
@@ -94,6 +106,7 @@ row (refits budget start tables) =
     both (through (refitStep sampleTones budget) start tables) (test (ℕ-discrete (refitRun sampleTones budget start .moves) (length tables)))
 row (costs gap noise gain w) = test (ℕ-discrete (cost gap (tone Pair noise gain 0 0)) w)
 row (limits w mask b) = test (ℕ-discrete (limit (tone Pair 1 1 15 mask) w) b)
+row (tenths d g) = onward (is-gap d g) (both (true? (right d g)) (test (decLe d mostTenths)))
 
 abbrev pub All : List Case → Type 0
 All [] = Unit {0}
@@ -115,5 +128,5 @@ proof (some a) p = a
 proof none p = absurd p
 
 pub starred-cases : All cases
-unfolding cases test both onward same sameAnswer sameLoading through row each passed cost kindPower largest limit step before? sum list against choice earliestFree latestHeld fits? takeIfFits giveUpOrTake refitMove addStep addStepTo refitStep follow run carrying setBits decLt decLe ℕ-discrete
+unfolding cases right test true? both onward same sameAnswer sameLoading through row each passed cost kindPower largest limit step before? sum list against choice earliestFree latestHeld fits? takeIfFits giveUpOrTake refitMove addStep addStepTo refitStep follow run carrying setBits decLt decLe ℕ-discrete
 starred-cases = proof (each cases) tt

@@ -3,8 +3,9 @@
 use Prim.Native.Nat.{ℕ, zero, suc, _+_, _-_, _*_, _≤_, _<_}
 use native.Mathlib.Nat.{le-div-iff-mul-le, div-lt-iff-lt-mul, mul-le-mul}
 use native.Mathlib.Omega.{arith}
+use Rattle.gaps.specs.Gap.{PartsInRange}
 use Rattle.line.specs.declared.Tone.{Tone}
-use Rattle.line.specs.Tone.{carried, InRange, Gap, Cost, ceiling, cost}
+use Rattle.line.specs.Tone.{carried, InRange, Cost, ceiling, cost}
 
 -- 'w is at least that exact fraction and less than 1 above it', and no smaller whole number is
 pub record Ceiling (a b w : ℕ) : Type 0 where
@@ -28,7 +29,7 @@ ceiling-is a b h = record {
     over : a + (b - 1) < suc w * b
     over = div-lt-iff-lt-mul {k = b} {x = a + (b - 1)} {y = suc w} h .0 (omega arith)
 
-module _ (g : ℕ) (t : Tone) (G : Gap g) (I : InRange t) where
+module _ (g : ℕ) (t : Tone) (G : PartsInRange g) (I : InRange t) where
   pub product-high : g * carried t .noise ≤ 4294836225
   product-high = omega (arith, mul-le-mul {n₂ = 65535} {m₂ = 65535} (G .high) (I .noise-high))
 

@@ -6,3 +6,4 @@ pub mod Masks
 pub mod Loads
 pub mod Arrays
 pub mod Cases
+pub mod Alike

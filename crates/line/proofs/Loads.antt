@@ -13,9 +13,11 @@ use Rattle.steps.proofs.Sums.{sum-zero}
 use Rattle.steps.proofs.Rising.{rising}
 use Rattle.steps.proofs.Demand3.{demand-3}
 use Rattle.steps.proofs.SetBits.{set-bits}
+use Rattle.gaps.specs.Gap.{PartsInRange}
+use Rattle.gaps.proofs.Rule.{parts-in-range}
 use Rattle.line.specs.declared.Steps.{Steps}
-use Rattle.line.specs.Tone.{Gap, cost}
-use Rattle.line.specs.Line.{Entry, undescribed, described, Line, entryOf, entryLimit, entryPower, tones, EntryInRange, LineInRange, entrySteps, stepsAt}
+use Rattle.line.specs.Tone.{cost}
+use Rattle.line.specs.Line.{Entry, undescribed, described, Line, gapOf, entryOf, entryLimit, entryPower, tones, EntryInRange, LineInRange, entrySteps, stepsAt}
 use Rattle.line.specs.Arrays.{powerIn, stepSize}
 use Rattle.line.proofs.Ceiling.{cost-range}
 use Rattle.line.proofs.Growth.{power-is, power-grows, power-zero, step-rises}
@@ -43,7 +45,7 @@ entry-add-up : (g : ℕ) (e : Entry) (q : Bool) (b : ℕ) → b < entryLimit g e
 entry-add-up g e q b h =
     rw (← entry-power g e q (suc b) h, ← entry-power g e q b (omega arith)) (omega (arith, entry-grows g e b))
 
-entry-rise : (g : ℕ) (e : Entry) (q : Bool) (b : ℕ) → Gap g → EntryInRange e → suc b < entryLimit g e q
+entry-rise : (g : ℕ) (e : Entry) (q : Bool) (b : ℕ) → PartsInRange g → EntryInRange e → suc b < entryLimit g e q
     → stepBy (entrySteps g e q) b < stepBy (entrySteps g e q) (suc b)
 entry-rise g e true b G I h = omega arith
 entry-rise g undescribed false b G I h = omega arith
@@ -55,20 +57,20 @@ module _ (l : Line) (I : LineInRange l) where
   pub line-rising : Rising (tones l)
   line-rising =
       rising (tones l) (λ i b. stepBy (stepsAt l i) b)
-      (λ i b il bl. entry-add-up (l .gap) (entryOf l i) (silenced (l .maps) i) b bl)
-      (λ i b il bl. entry-rise (l .gap) (entryOf l i) (silenced (l .maps) i) b (I .gap) (I .entries i il) bl)
+      (λ i b il bl. entry-add-up (gapOf l) (entryOf l i) (silenced (l .maps) i) b bl)
+      (λ i b il bl. entry-rise (gapOf l) (entryOf l i) (silenced (l .maps) i) b (parts-in-range (l .gap) (I .gap)) (I .entries i il) bl)
 
   -- the powers of a line are those of what the code keeps of its tones
   pub line-power : (i b : ℕ) → b ≤ tones l .limit i → tones l .power i b ≡ powerIn (stepsAt l i .cost) (stepsAt l i .doublings) b
-  line-power i b bl = entry-power (l .gap) (entryOf l i) (silenced (l .maps) i) b bl
+  line-power i b bl = entry-power (gapOf l) (entryOf l i) (silenced (l .maps) i) b bl
 
   -- 'No bits, no power': the table of no bits keeps every budget
   pub no-bits-fit : (budget : ℕ) → KeepsBudget (tones l) budget (noBits (tones l))
-  no-bits-fit budget = omega (arith, sum-zero (l .size) (λ i. entryPower (l .gap) (entryOf l i) (noBits (tones l) ! i)) none)
+  no-bits-fit budget = omega (arith, sum-zero (l .size) (λ i. entryPower (gapOf l) (entryOf l i) (noBits (tones l) ! i)) none)
     where
-      none : (i : ℕ) → i < l .size → entryPower (l .gap) (entryOf l i) (noBits (tones l) ! i) ≡ 0
+      none : (i : ℕ) → i < l .size → entryPower (gapOf l) (entryOf l i) (noBits (tones l) ! i) ≡ 0
       none i il =
-          ap (entryPower (l .gap) (entryOf l i)) (getD-replicate {A = ℕ} (l .size) i 0 0 il) ∙ entry-no-bits (l .gap) (entryOf l i)
+          ap (entryPower (gapOf l) (entryOf l i)) (getD-replicate {A = ℕ} (l .size) i 0 0 il) ∙ entry-no-bits (gapOf l) (entryOf l i)
 
   pub no-bits-keep : KeepsLimits (tones l) (noBits (tones l))
   no-bits-keep = record { sized = length-replicate (l .size) 0; under = λ i il. omega (arith, getD-replicate {A = ℕ} (l .size) i 0 0 il) }

@@ -10,7 +10,7 @@ use Rattle.silence.specs.Map.{silenced}
 use Rattle.steps.specs.Tones.{sumOfLimits}
 use Rattle.steps.proofs.Sums.{sum-at-most}
 use Rattle.line.specs.Tone.{cost}
-use Rattle.line.specs.Line.{Entry, undescribed, described, Line, entryOf, entryLimit, entryPower, entryMask, tones, EntryInRange, LineInRange}
+use Rattle.line.specs.Line.{Entry, undescribed, described, Line, gapOf, entryOf, entryLimit, entryPower, entryMask, tones, EntryInRange, LineInRange}
 use Rattle.line.proofs.Growth.{power-zero}
 use Rattle.line.proofs.Limits.{cap-high, power-mono, limit-is}
 
@@ -35,10 +35,10 @@ module _ (l : Line) (I : LineInRange l) where
   -- the power of one tone within its limit
   pub power-high : (i b : ℕ) → i < l .size → b ≤ tones l .limit i → tones l .power i b ≤ 2 ^ 47
   power-high i b il h =
-      le-trans (within-mask (l .gap) (entryOf l i) (silenced (l .maps) i) b h)
+      le-trans (within-mask (gapOf l) (entryOf l i) (silenced (l .maps) i) b h)
       (mask-high (entryOf l i) (I .entries i il))
 
   -- no limit is above 15 bits, so the limits add up to at most 256 × 15
   pub limits-high : sumOfLimits (tones l) ≤ mostBitsOfAll
   limits-high =
-      omega (arith, I .size-high, sum-at-most (l .size) 15 (tones l .limit) (λ i il. limit-high (l .gap) (entryOf l i) (silenced (l .maps) i) (I .entries i il)))
+      omega (arith, I .size-high, sum-at-most (l .size) 15 (tones l .limit) (λ i il. limit-high (gapOf l) (entryOf l i) (silenced (l .maps) i) (I .entries i il)))

@@ -1,4 +1,5 @@
--- The starred cases of document 01, 'Sample line', as rows of one list, and what each says of the definitions.
+-- The starred cases of document 01, 'Sample line', and the figures of document 02's requests, as rows of one list, and what each says of
+-- the definitions.
 -- Assumes nothing.
 use mathlib.Core.Path.{_≡_}
 use mathlib.Core.List.{List, [], _∷_}
@@ -7,6 +8,8 @@ use Prim.Native.Nat.{ℕ}
 use lib.ListN.{length}
 use Rattle.steps.specs.Tones.{Tones, Table, powers, totalBits, totalPower}
 use Rattle.steps.specs.Runs.{Answer, moved, finished, refitStep, mostBits, refitRun, setBits}
+use Rattle.gaps.specs.declared.Gap.the-variants.{Parts}
+use Rattle.gaps.specs.Gap.{gapOfTenths}
 use Rattle.line.specs.declared.Kind.{Kind}
 use Rattle.line.specs.declared.Kind.the-variants.{Pair, Single}
 use Rattle.line.specs.declared.Numbers.{Numbers}
@@ -21,7 +24,7 @@ tone kind noise gain cap mask = record { kind = kind (record { noise = noise; ga
 abbrev pub sample : (budget : ℕ) → Line
 sample budget = record {
   size = 3;
-  gap = 256;
+  gap = Parts 256;
   budget = budget;
   entries = described (tone Pair 3 1 15 100) ∷ described (tone Pair 5 1 2 100) ∷ described (tone Single 1 1 7 100) ∷ [];
   maps = 0 ∷ [];
@@ -45,6 +48,8 @@ pub data Case : Type 0 where
   costs : (gap noise gain w : ℕ) → Case
   -- cost and mask: the limit of a pair tone
   limits : (w mask b : ℕ) → Case
+  -- W1, tenths of a decibel: the gap
+  tenths : (d g : ℕ) → Case
 
 -- The rule's own steps from t: each answers 'moved' with the next table listed, and the last table is finished.
 abbrev pub Through : (Table → Answer) → Table → List Table → Type 0
@@ -62,6 +67,7 @@ CaseHolds (refits budget start through) =
     Through (refitStep sampleTones budget) start through × (refitRun sampleTones budget start .moves ≡ length through)
 CaseHolds (costs gap noise gain w) = cost gap (tone Pair noise gain 0 0) ≡ w
 CaseHolds (limits w mask b) = limit (tone Pair 1 1 15 mask) w ≡ b
+CaseHolds (tenths d g) = gapOfTenths d ≡ g
 
 unfoldable pub cases : List Case
 cases =
@@ -80,4 +86,7 @@ cases =
     ∷ limits 3 3 1
     ∷ limits 3 8 1
     ∷ limits 3 9 2
+    ∷ tenths 0 256
+    ∷ tenths 100 2560
+    ∷ tenths 200 25600
     ∷ []

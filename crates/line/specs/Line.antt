@@ -8,9 +8,11 @@ use lib.ListN.{getD}
 use Rattle.sizes.specs.Sizes.{mostTones, mostPower}
 use Rattle.silence.specs.Map.{silenced}
 use Rattle.steps.specs.Tones.{Tones}
+use Rattle.gaps.specs.declared.Gap.{Gap}
+use Rattle.gaps.specs.Gap.{parts, GapInRange}
 use Rattle.line.specs.declared.Tone.{Tone}
 use Rattle.line.specs.declared.Steps.{Steps}
-use Rattle.line.specs.Tone.{carried, InRange, Gap, cost, power, limit, doublings}
+use Rattle.line.specs.Tone.{carried, InRange, cost, power, limit, doublings}
 
 -- a tone of a line: not described, or described, with what it carries
 pub data Entry : Type 0 where
@@ -22,13 +24,17 @@ isDescribed undescribed = false
 isDescribed (described t) = true
 
 -- 'A line is N, gap, budget, the described tones with what they carry, and the set of silenced tones': an entry for each of the N tones,
--- and the silence maps of as many words as the N tones take.
+-- and the silence maps of as many words as the N tones take. W1: which command gave the gap 'belongs to the line'.
 pub record Line : Type 0 where
   pub size : ℕ
-  pub gap : ℕ
+  pub gap : Gap
   pub budget : ℕ
   pub entries : List Entry
   pub maps : List ℕ
+
+-- the line's gap in 1/256, whichever command gave it
+abbrev pub gapOf : Line → ℕ
+gapOf l = parts (l .gap)
 
 -- tone i of a line
 abbrev pub entryOf : Line → (i : ℕ) → Entry
@@ -54,8 +60,8 @@ entryMask (described t) = carried t .mask
 abbrev pub tones : Line → Tones
 tones l = record {
   count = l .size;
-  limit = λ i. entryLimit (l .gap) (entryOf l i) (silenced (l .maps) i);
-  power = λ i b. entryPower (l .gap) (entryOf l i) b;
+  limit = λ i. entryLimit (gapOf l) (entryOf l i) (silenced (l .maps) i);
+  power = λ i b. entryPower (gapOf l) (entryOf l i) b;
 }
 
 -- the ranges of what an entry carries
@@ -63,11 +69,11 @@ abbrev pub EntryInRange : Entry → Type 0
 EntryInRange undescribed = Unit {0}
 EntryInRange (described t) = InRange t
 
--- the ranges of a line: N from 1 to 256, the gap from 256 to 65,535, the budget from 0 to 2^47, and those of each tone
+-- the ranges of a line: N from 1 to 256, the gap in its unit's range, the budget from 0 to 2^47, and those of each tone
 pub record LineInRange (l : Line) : Type 0 where
   pub size-low : 1 ≤ l .size
   pub size-high : l .size ≤ mostTones
-  pub gap : Gap (l .gap)
+  pub gap : GapInRange (l .gap)
   pub budget-high : l .budget ≤ mostPower
   pub entries : (i : ℕ) → i < l .size → EntryInRange (entryOf l i)
 
@@ -86,4 +92,4 @@ entrySteps g (described t) false = stepsOf g t
 
 -- that of tone i of a line
 abbrev pub stepsAt : Line → (i : ℕ) → Steps
-stepsAt l i = entrySteps (l .gap) (entryOf l i) (silenced (l .maps) i)
+stepsAt l i = entrySteps (gapOf l) (entryOf l i) (silenced (l .maps) i)

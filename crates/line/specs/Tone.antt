@@ -5,6 +5,7 @@ use mathlib.Core.Logic.{ite}
 use Prim.Native.Nat.{ℕ, zero, suc, _+_, _-_, _*_, _/_, _^_, _≤_}
 use native.Mathlib.Decide.{decLe}
 use Rattle.sizes.specs.Sizes.{pairCap, singleCap, mostPower}
+use Rattle.gaps.specs.Gap.{gapUnit}
 use Rattle.line.specs.declared.Numbers.{Numbers}
 use Rattle.line.specs.declared.Kind.{Kind}
 use Rattle.line.specs.declared.Kind.the-variants.{Pair, Single}
@@ -40,14 +41,6 @@ pub record InRange (t : Tone) : Type 0 where
   pub gain-high : carried t .gain ≤ 65535
   pub cap-high : carried t .cap ≤ mostCap (isSingle (t .kind))
   pub mask-high : carried t .mask ≤ mostPower
-
--- 'The gap g (256 to 65,535) is in 1/256: 256 means no gap.'
-abbrev pub gapUnit : ℕ
-gapUnit = 256
-
-pub record Gap (g : ℕ) : Type 0 where
-  pub low : gapUnit ≤ g
-  pub high : g ≤ 65535
 
 -- the smallest whole number not below a / b, for b above zero
 abbrev pub ceiling : (a b : ℕ) → ℕ

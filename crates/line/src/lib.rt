@@ -1,14 +1,13 @@
 // One tone of a line: document 01, 'Cost, power and limit of a tone'.
 ghost use mathlib.Core.Path.{_≡_};
 ghost use Prim.Native.Nat.{_*_, _^_, _≤_, _<_};
+ghost use Rattle.gaps.specs.Gap.{PartsInRange};
 ghost use Rattle.line.specs.Line.{stepsOf};
 ghost use Rattle.line.specs.Arrays.{powerIn};
-ghost use Rattle.line.specs.Tone.{mostCap, carried, doublings, InRange, Gap, Cost, cost, power, limit};
+ghost use Rattle.line.specs.Tone.{mostCap, carried, doublings, InRange, Cost, cost, power, limit};
+use gaps::GAP_UNIT;
 use sizes::PAIR_CAP;
 use sizes::SINGLE_CAP;
-
-// The unit of the gap: a gap of 256 is none.
-pub const GAP_UNIT: u64 = 256;
 
 // What a tone of either kind carries: noise, gain, cap and mask.
 pub struct Numbers {
@@ -65,9 +64,9 @@ fn doublings(tone: Tone) -> u8
     }
 }
 
-// The cost of a tone at a gap: the noise over the gain, with the gap, rounded up.
+// The cost of a tone at a gap in parts of 256: the noise over the gain, with the gap, rounded up.
 fn cost(gap: u16, tone: Tone) -> u32
-    requires { ⌜ Gap gap × InRange tone ⌝ }
+    requires { ⌜ PartsInRange gap × InRange tone ⌝ }
     ensures meaning { λ r. ⌜ r ≡ cost gap tone ⌝ }
     ensures range { λ r. ⌜ Cost r ⌝ }
 {
@@ -114,7 +113,7 @@ fn limit(tone: Tone, cost: u32) -> u8
 
 // What the runs need of a tone that is described and not silenced.
 pub fn steps_of(gap: u16, tone: Tone) -> Steps
-    requires { ⌜ Gap gap ⌝ }
+    requires { ⌜ PartsInRange gap ⌝ }
     requires { ⌜ InRange tone ⌝ }
     ensures { λ r. ⌜ r ≡ stepsOf gap tone ⌝ }
 {

@@ -14,7 +14,7 @@ use Rattle.steps.specs.Runs.{mostBits, refitRun, setBits}
 use Rattle.steps.specs.Claims.{SetBits}
 use Rattle.steps.proofs.Sums.{sum-eq}
 use Rattle.line.specs.Tone.{cost}
-use Rattle.line.specs.Line.{Entry, undescribed, described, Line, entryOf, entryLimit, entryPower, tones, LineInRange}
+use Rattle.line.specs.Line.{Entry, undescribed, described, Line, gapOf, entryOf, entryLimit, entryPower, tones, LineInRange}
 use Rattle.line.proofs.Growth.{power-zero}
 use Rattle.line.proofs.Loads.{line-demand-3, line-set-bits, no-bits-keep}
 use Rattle.line.proofs.Masks.{within-mask, power-high}
@@ -40,10 +40,10 @@ pub respects : (l : Line) → LineInRange l → (t : Table) → KeepsLimits (ton
 respects l I t w fits = record {
   bits-at = bits;
   power-at = power;
-  masks = λ i il. rw (power i il) (within-mask (l .gap) (entryOf l i) (silenced (l .maps) i) (t ! i) (w .under i il));
+  masks = λ i il. rw (power i il) (within-mask (gapOf l) (entryOf l i) (silenced (l .maps) i) (t ! i) (w .under i il));
   budget = omega (arith, fits, sum-eq (l .size) (writtenPower l t) (λ i. tones l .power i (t ! i)) power);
-  silenced-tones = λ i il e. nothing i il (limit-silenced (l .gap) (entryOf l i) e);
-  other-tones = λ i il e. nothing i il (limit-undescribed (l .gap) (silenced (l .maps) i) e);
+  silenced-tones = λ i il e. nothing i il (limit-silenced (gapOf l) (entryOf l i) e);
+  other-tones = λ i il e. nothing i il (limit-undescribed (gapOf l) (silenced (l .maps) i) e);
 }
   where
     bits : (i : ℕ) → i < l .size → getD (tableBytes (tones l) t) (9 * i) 0 ≡ t ! i
@@ -56,7 +56,7 @@ respects l I t w fits = record {
     nothing : (i : ℕ) → i < l .size → tones l .limit i ≡ 0 → Nothing l t i
     nothing i il z =
         let n : t ! i ≡ 0 = omega (arith, w .under i il) in
-        (bits i il ∙ n, power i il ∙ ap (tones l .power i) n ∙ no-power (l .gap) (entryOf l i))
+        (bits i il ∙ n, power i il ∙ ap (tones l .power i) n ∙ no-power (gapOf l) (entryOf l i))
 
 module _ (sheet : List ℕ) (b : Bytes sheet) (l : Line) (e : reading sheet ≡ accepted l) where
   ready : LineInRange l

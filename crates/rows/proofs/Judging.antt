@@ -132,9 +132,9 @@ four-or-five code low high = by (ℕ-discrete code 4)
 pub tone-row : (code : ℕ) → 4 ≤ code → code < 6 → toneRow (eqb code 5) ≡ rowOf code
 tone-row code low high = ⊎-elim (λ e. rw e) (λ e. rw e) (four-or-five code low high)
 
--- a byte above those of the other commands is taken for the end
-pub end-row : (code : ℕ) → 7 ≤ code → rowOf code ≡ end
-end-row code l = rw (other 1 tt, other 2 tt, other 3 tt, other 4 tt, other 5 tt, other 6 tt) (either (eqb code 7))
+-- 7, and every byte above it but 8, is taken for the end
+pub end-row : (code : ℕ) → 7 ≤ code → (code ≡ 8 → ⊥) → rowOf code ≡ end
+end-row code l n = rw (other 1 tt, other 2 tt, ne-eqb code 8 n, other 3 tt, other 4 tt, other 5 tt, other 6 tt) (either (eqb code 7))
   where
     either : (t : Bool) → orEnd (cond t (some end) none) ≡ end
     either true = refl

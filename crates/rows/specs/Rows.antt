@@ -1,4 +1,4 @@
--- The commands of a sheet, one row for each. Document 01, 'The line sheet' and 'Why a sheet is turned down'.
+-- The commands of a sheet, one row for each. Document 01, 'The line sheet' and 'Why a sheet is turned down'; document 02, W1.
 -- Assumes nothing.
 use mathlib.Core.Bool.{Bool, true, false, cond}
 use mathlib.Core.List.{List, [], _∷_, _++_}
@@ -9,7 +9,9 @@ use lib.ListN.{length, getD}
 use Rattle.sizes.specs.Sizes.{mostPower}
 use Rattle.bigendian.specs.Number.{number}
 use Rattle.silence.specs.Map.{namesBeyond}
-use Rattle.line.specs.Tone.{mostCap, gapUnit}
+use Rattle.gaps.specs.declared.Gap.the-variants.{Parts, Tenths}
+use Rattle.gaps.specs.Gap.{gapUnit, mostGap, mostTenths}
+use Rattle.line.specs.Tone.{mostCap}
 use Rattle.line.specs.Line.{Entry, isDescribed}
 use Rattle.refusals.specs.declared.Refusal.{Refusal}
 use Rattle.refusals.specs.declared.Refusal.the-variants.{SheetEnds, OperandOutOfRange, ToneBeyondLine, ToneRepeated}
@@ -68,8 +70,8 @@ size most = record {
 abbrev pub gap : Row
 gap = record {
   code = 0x02;
-  operands = within 2 gapUnit 65535 ∷ [];
-  does = λ h v. Head (record { size = h .size; gap = getD v 0 0; budget = h .budget });
+  operands = within 2 gapUnit mostGap ∷ [];
+  does = λ h v. Head (record { size = h .size; gap = Parts (getD v 0 0); budget = h .budget });
 }
 
 abbrev pub budget : Row
@@ -77,6 +79,14 @@ budget = record {
   code = 0x03;
   operands = within 8 0 mostPower ∷ [];
   does = λ h v. Head (record { size = h .size; gap = h .gap; budget = getD v 0 0 });
+}
+
+-- W1, 08: 'Command 08 (hex), with one operand byte d from 0 to 240'
+abbrev pub tenths : Row
+tenths = record {
+  code = 0x08;
+  operands = within 1 0 mostTenths ∷ [];
+  does = λ h v. Head (record { size = h .size; gap = Tenths (getD v 0 0); budget = h .budget });
 }
 
 -- 04 pair tone and 05 single tone: 'tone 1, noise 2, gain 2, cap 1, mask 8'
@@ -103,11 +113,21 @@ end = record { code = 0x07; operands = []; does = λ h v. End }
 
 -- '01, 02, 03 come first, each once, in that order; then any number of 04, 05, 06; then 07.'
 -- The commands allowed after so many of the first three, with so many tones and words at most.
+abbrev pub firstRows : (tones words stage : ℕ) → List Row
+firstRows tones words zero = size tones ∷ []
+firstRows tones words (suc zero) = gap ∷ []
+firstRows tones words (suc (suc zero)) = budget ∷ []
+firstRows tones words (suc (suc (suc n))) = pair ∷ single ∷ silence words ∷ end ∷ []
+
+-- W1: 08 'may stand where 02 stands'
+abbrev pub tenthsRows : (stage : ℕ) → List Row
+tenthsRows zero = []
+tenthsRows (suc zero) = tenths ∷ []
+tenthsRows (suc (suc n)) = []
+
+-- those of document 01 and of the requests
 abbrev pub rowsOf : (tones words stage : ℕ) → List Row
-rowsOf tones words zero = size tones ∷ []
-rowsOf tones words (suc zero) = gap ∷ []
-rowsOf tones words (suc (suc zero)) = budget ∷ []
-rowsOf tones words (suc (suc (suc n))) = pair ∷ single ∷ silence words ∷ end ∷ []
+rowsOf tones words stage = firstRows tones words stage ++ tenthsRows stage
 
 abbrev pub withCode : List Row → (code : ℕ) → Option Row
 withCode [] code = none

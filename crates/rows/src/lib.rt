@@ -1,17 +1,19 @@
 // The commands of a line sheet, one row for each, and the code that judges their operands: document 01, 'The line sheet' and 'Why a sheet is
-// turned down'.
+// turned down', and document 02, W1.
 ghost use mathlib.Core.Path.{_≡_};
 ghost use Prim.Native.Nat.{_+_, _≤_};
 ghost use lib.ListN.{length};
-ghost use Rattle.sizes.specs.Sizes.{longestSheet, toneCommand, silenceCommand};
+ghost use Rattle.sizes.specs.Sizes.{longestSheet, tenthsCommand, toneCommand, silenceCommand};
 ghost use Rattle.lists.specs.Lent.{before};
 ghost use Rattle.line.specs.Line.{Entry};
 ghost use Rattle.refusals.specs.declared.Refusal.the-variants.{OperandOutOfRange};
 ghost use Rattle.places.specs.Places.{entryAt};
 ghost use Rattle.rows.specs.declared.Command.the-variants.{Refused};
-ghost use Rattle.rows.specs.Rows.{rowAt, width};
+ghost use Rattle.rows.specs.Rows.{tenths, rowAt, width};
 ghost use Rattle.rows.specs.Codes.{rowOf, toneRow, silenceRow, codeAt};
-use line::GAP_UNIT;
+use gaps::GAP_UNIT;
+use gaps::Gap;
+use gaps::MOST_TENTHS;
 use refusals::Refusal;
 use sizes::BUDGET_COMMAND;
 use sizes::END_COMMAND;
@@ -20,6 +22,7 @@ use sizes::MOST_POWER;
 use sizes::SHEET_BYTES;
 use sizes::SILENCE_COMMAND;
 use sizes::SIZE_COMMAND;
+use sizes::TENTHS_COMMAND;
 use sizes::TONE_COMMAND;
 use sizes::TONES;
 use sizes::WORDS;
@@ -27,7 +30,7 @@ use sizes::WORDS;
 // What the first three commands give: N, the gap and the budget; 0 for what is not given yet.
 pub struct Header {
     pub size: u16,
-    pub gap: u16,
+    pub gap: Gap,
     pub budget: u64,
 }
 
@@ -63,6 +66,7 @@ fn header_command(s: &[u8], at: usize, code: u8, header: Header) -> Command
     requires { ⌜ length (now s) ≤ longestSheet ⌝ }
     ensures { λ r. ⌜ ((known : Entry) → r ≡ rowAt header known (before s) at (rowOf code)) ⌝ }
 {
+    let gap = header.gap;
     if code == 3 {
         let budget = bigendian::number_at(s, at + 1, 8);
         if MOST_POWER < budget {
@@ -70,7 +74,7 @@ fn header_command(s: &[u8], at: usize, code: u8, header: Header) -> Command
         }
         return Command::Head(Header {
             size: header.size,
-            gap: header.gap,
+            gap: gap,
             budget: budget,
         });
     }
@@ -81,7 +85,7 @@ fn header_command(s: &[u8], at: usize, code: u8, header: Header) -> Command
         }
         return Command::Head(Header {
             size: header.size,
-            gap: n as u16,
+            gap: Gap::Parts(n as u16),
             budget: header.budget,
         });
     }
@@ -93,7 +97,25 @@ fn header_command(s: &[u8], at: usize, code: u8, header: Header) -> Command
     }
     Command::Head(Header {
         size: n as u16,
-        gap: header.gap,
+        gap: gap,
+        budget: header.budget,
+    })
+}
+
+// The gap in tenths of a decibel, both of whose bytes are there.
+fn tenths_command(s: &[u8], at: usize, header: Header) -> Command
+    requires { ⌜ at + tenthsCommand ≤ length (now s) ⌝ }
+    requires { ⌜ length (now s) ≤ longestSheet ⌝ }
+    ensures { λ r. ⌜ ((known : Entry) → r ≡ rowAt header known (before s) at tenths) ⌝ }
+{
+    let place = at + 1;
+    let tenths = s[place];
+    if MOST_TENTHS < tenths {
+        return out_of_range(place);
+    }
+    Command::Head(Header {
+        size: header.size,
+        gap: Gap::Tenths(tenths),
         budget: header.budget,
     })
 }
@@ -154,6 +176,7 @@ fn bytes_of(code: u8) -> usize
         3 => BUDGET_COMMAND,
         4 | 5 => TONE_COMMAND,
         6 => SILENCE_COMMAND,
+        8 => TENTHS_COMMAND,
         _ => END_COMMAND,
     }
 }
@@ -168,6 +191,7 @@ fn operands(s: &[u8], at: usize, code: u8, header: Header, place: u16) -> Comman
         1..=3 => header_command(s, at, code, header),
         4 | 5 => tone_command(s, at, header, place, code == 5),
         6 => silence_command(s, at, header),
+        8 => tenths_command(s, at, header),
         _ => Command::End,
     }
 }

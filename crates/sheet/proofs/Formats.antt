@@ -18,8 +18,9 @@ use Rattle.rows.specs.declared.Command.the-variants.{End, Refused, Head, Descri
 use Rattle.rows.specs.declared.Decoded.{Decoded}
 use Rattle.rows.specs.Rows.{Row, width, withCode}
 use Rattle.places.specs.Places.{addressed}
-use Rattle.command.specs.Format.{Format, isTooLong, decodedRow, decoded, isRefused, Covered, Within}
-use Rattle.sheet.specs.Reading.{accepted, refused, headerOf, emptyLine, afterCommand, commandIn, readOn, readFrom, readingIn}
+use Rattle.command.specs.Format.{Format, document01, today, isTooLong, decodedRow, decoded, isRefused, Covered, Within}
+use Rattle.command.proofs.Formats.{tenths-within}
+use Rattle.sheet.specs.Reading.{accepted, refused, headerOf, emptyLine, afterCommand, commandIn, readOn, readFrom, readingIn, reading}
 
 -- a refusal is no line
 never : {P : Type 0} {q : Refusal} {l : Line} → refused q ≡ accepted l → P
@@ -72,3 +73,7 @@ module _ (F G : Format) (wider : Within F G) where
 
 pub accepted-wider : (F G : Format) → Within F G → (s : List ℕ) (l : Line) → readingIn F s ≡ accepted l → readingIn G s ≡ accepted l
 accepted-wider = wider-reading
+
+-- W1: a sheet that document 01's format accepts is accepted, and means the same line
+pub accepted-before-tenths : (s : List ℕ) (l : Line) → readingIn document01 s ≡ accepted l → reading s ≡ accepted l
+accepted-before-tenths = accepted-wider document01 today tenths-within

@@ -24,7 +24,8 @@ use Rattle.bigendian.proofs.Numbers.{number-one, number-lt, number-there}
 use Rattle.silence.specs.Map.{bit, namesBeyond}
 use Rattle.silence.proofs.Maps.{beyond-clear, joined-bit, joined-lt}
 use Rattle.line.specs.declared.Numbers.{Numbers}
-use Rattle.line.specs.Tone.{kindOf, mostCap, InRange, Gap, gapUnit}
+use Rattle.gaps.specs.Gap.{gapUnit, mostGap, mostTenths, GapInRange}
+use Rattle.line.specs.Tone.{kindOf, mostCap, InRange}
 use Rattle.line.specs.Line.{undescribed, EntryInRange, Line, LineInRange}
 use Rattle.refusals.specs.declared.Refusal.the-variants.{SheetTooLong}
 use Rattle.rows.specs.declared.Header.{Header}
@@ -61,7 +62,7 @@ record SizeInRange (n : ℕ) : Type 0 where
   low : 1 ≤ n
   high : n ≤ mostTones
 
-bare-sound : (h : Header) → SizeInRange (h .size) → Gap (h .gap) → h .budget ≤ mostPower → Sound (bareLine h)
+bare-sound : (h : Header) → SizeInRange (h .size) → GapInRange (h .gap) → h .budget ≤ mostPower → Sound (bareLine h)
 bare-sound h z g b = record {
   in-range = record {
     size-low = z .low;
@@ -128,7 +129,7 @@ module _ (s : List ℕ) (bytes : Bytes s) where
   abbrev Along : (at stage : ℕ) → Line → Type 0
   Along at zero l = Unit {0}
   Along at (suc zero) l = SizeInRange (l .size)
-  Along at (suc (suc zero)) l = SizeInRange (l .size) × Gap (l .gap)
+  Along at (suc (suc zero)) l = SizeInRange (l .size) × GapInRange (l .gap)
   Along at (suc (suc (suc n))) l = Sound l
 
   module _ (at : ℕ) (l : Line) where
@@ -157,8 +158,10 @@ module _ (s : List ℕ) (bytes : Bytes s) where
   kept : (at stage : ℕ) (l : Line) → Along at stage l → Each (Leads today s Along Sound at stage l) (today .rows stage)
   kept at zero l a =
       (λ is fits p. let v = in-within (number s (at + 1) 2) 1 mostTones _ _ (p .0) in record { low = v .0; high = v .1 }, tt)
-  kept at (suc zero) l a =
-      (λ is fits p. let v = in-within (number s (at + 1) 2) gapUnit 65535 _ _ (p .0) in (a, record { low = v .0; high = v .1 }), tt)
+  kept at (suc zero) l a = (
+    λ is fits p. let v = in-within (number s (at + 1) 2) gapUnit mostGap _ _ (p .0) in (a, record { low = v .0; high = v .1 }),
+    (λ is fits p. (a, in-within (number s (at + 1) 1) 0 mostTenths _ _ (p .0) .1), tt),
+  )
   kept at (suc (suc zero)) l a =
       (λ is fits p. let v = in-within (number s (at + 1) 8) 0 mostPower _ _ (p .0) in bare-sound _ (a .0) (a .1) (v .1), tt)
   kept at (suc (suc (suc n))) l z =

@@ -16,6 +16,7 @@ use lib.ListN.{length, getD, set, replicate, length-set, length-replicate}
 use Rattle.sizes.specs.Sizes.{mostTones, mostWords, wordsOf, longestSheet}
 use Rattle.lists.proofs.Stores.{all-same}
 use Rattle.silence.specs.Map.{joined}
+use Rattle.gaps.specs.declared.Gap.the-variants.{Parts}
 use Rattle.line.specs.Line.{undescribed, Line, entryOf}
 use Rattle.refusals.specs.declared.Refusal.{Refusal}
 use Rattle.refusals.specs.declared.Refusal.the-variants.{BytesAfterEnd}
@@ -67,7 +68,7 @@ empty-start = record {
   no-map = λ word. all-same {A = ℕ} mostWords word 0;
 }
 
-pub starts : (s : List ℕ) → Going s (replicate mostTones 0) (replicate mostWords 0) (record { size = 0; gap = 0; budget = 0 }) 0 0
+pub starts : (s : List ℕ) → Going s (replicate mostTones 0) (replicate mostWords 0) (record { size = 0; gap = Parts 0; budget = 0 }) 0 0
 unfolding readingIn
 starts s = record {
   most = suc (length s);

@@ -1,4 +1,4 @@
--- What a sheet means, for all byte lists of any length. Document 01, 'The line sheet' and 'Why a sheet is turned down'.
+-- What a sheet means, for all byte lists of any length. Document 01, 'The line sheet' and 'Why a sheet is turned down'; document 02, W1.
 -- Assumes nothing.
 use mathlib.Core.Bool.{cond}
 use mathlib.Core.List.{List}
@@ -7,6 +7,7 @@ use lib.Dec.{ltb}
 use lib.ListN.{length, set, replicate}
 use Rattle.sizes.specs.Sizes.{wordsOf}
 use Rattle.silence.specs.Map.{joined}
+use Rattle.gaps.specs.declared.Gap.the-variants.{Parts}
 use Rattle.line.specs.Line.{undescribed, described, Line, entryOf}
 use Rattle.refusals.specs.declared.Refusal.{Refusal}
 use Rattle.refusals.specs.declared.Refusal.the-variants.{SheetTooLong, SheetEnds, BytesAfterEnd}
@@ -31,7 +32,7 @@ bareLine h = record { size = h .size; gap = h .gap; budget = h .budget; entries 
 
 -- the line before any command
 abbrev pub emptyLine : Line
-emptyLine = bareLine (record { size = 0; gap = 0; budget = 0 })
+emptyLine = bareLine (record { size = 0; gap = Parts 0; budget = 0 })
 
 -- What a command at a place does to the line. A new header comes before any tone.
 abbrev pub effect : Command → List ℕ → (at : ℕ) → Line → Line
@@ -83,6 +84,6 @@ readFrom F (suc most) s at stage l = readOn (afterDecoded (commandIn F l s at st
 unfoldable pub readingIn : Format → List ℕ → Meaning
 readingIn F s = cond (isTooLong F s) (refused SheetTooLong) (readFrom F (suc (length s)) s 0 0 emptyLine)
 
--- in document 01's format
+-- in the format that is read
 abbrev pub reading : List ℕ → Meaning
 reading s = readingIn today s

@@ -11,6 +11,7 @@ ghost use Rattle.line.specs.Line.{Line};
 ghost use Rattle.sheet.specs.Check.{checking, checkNumbers, checkOutcome};
 ghost use Rattle.sheet.specs.Index.{Indexes, ReadsAs, answerOf};
 ghost use Rattle.sheet.specs.Reading.{accepted, reading};
+use gaps::Gap;
 use refusals::Refusal;
 use rows::Command;
 use rows::Header;
@@ -33,7 +34,7 @@ fn read_commands(s: &[u8], places: &mut [u16; TONES], maps: &mut [u32; WORDS]) -
 {
     let mut header = Header {
         size: 0,
-        gap: 0,
+        gap: Gap::Parts(0),
         budget: 0,
     };
     let mut stage: u8 = 0;

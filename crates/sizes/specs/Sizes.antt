@@ -43,6 +43,10 @@ sizeCommand = 3
 abbrev pub gapCommand : ℕ
 gapCommand = 3
 
+-- W1: 'Command 08 (hex), with one operand byte'
+abbrev pub tenthsCommand : ℕ
+tenthsCommand = 2
+
 abbrev pub budgetCommand : ℕ
 budgetCommand = 9
 

@@ -27,6 +27,8 @@ pub const SIZE_COMMAND: usize = 3;
 
 pub const GAP_COMMAND: usize = 3;
 
+pub const TENTHS_COMMAND: usize = 2;
+
 pub const BUDGET_COMMAND: usize = 9;
 
 pub const TONE_COMMAND: usize = 15;

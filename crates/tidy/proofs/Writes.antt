@@ -11,6 +11,7 @@ use Rattle.sizes.specs.Sizes.{wordsOf, sizeCommand, toneCommand, silenceCommand
 use Rattle.bigendian.specs.Number.{bytes}
 use Rattle.bigendian.proofs.Numbers.{length-bytes, bytes-one}
 use Rattle.bigendian.proofs.Stores.{Growing, sets-append}
+use Rattle.gaps.specs.declared.Gap.the-variants.{Parts, Tenths}
 use Rattle.line.specs.Line.{Line}
 use Rattle.rows.specs.declared.Header.{Header}
 use Rattle.rows.specs.Rows.{budget, end}
@@ -55,9 +56,13 @@ word-stores out at word map h =
     ∙ sets-bytes _ (at + 2) 4 map [] (at + silenceCommand) (omega arith)
     ∙ rw (bytes-one word h))
 
-pub gap-stores : (out : List ℕ) (at g : ℕ) → sets out at (gapBytes g) ≡ sets (set out at 2) (at + 1) (bytes 2 g)
+pub parts-stores : (out : List ℕ) (at g : ℕ) → sets out at (gapBytes (Parts g)) ≡ sets (set out at 2) (at + 1) (bytes 2 g)
 unfolding gapBytes
-gap-stores out at g = rw add-one (sets-bytes (set out at 2) (suc at) 2 g [] (at + 3) (omega arith))
+parts-stores out at g = rw add-one (sets-bytes (set out at 2) (suc at) 2 g [] (at + 3) (omega arith))
+
+pub tenths-stores : (out : List ℕ) (at d : ℕ) → d < 256 → sets out at (gapBytes (Tenths d)) ≡ set (set out at 8) (at + 1) d
+unfolding gapBytes
+tenths-stores out at d h = rw (add-one, bytes-one d h)
 
 -- the first three commands, the third at a place after the gap's
 pub head-stores : (out : List ℕ) (h : Header) (at : ℕ) → at ≡ sizeCommand + length (gapBytes (h .gap))

@@ -1,16 +1,17 @@
-// Tidying a sheet: document 01, 'The line sheet'.
+// Tidying a sheet: document 01, 'The line sheet', and document 02, W1.
 mod writer;
 
 ghost use mathlib.Core.List.{List};
 ghost use mathlib.Core.Path.{_≡_};
 ghost use Prim.Native.Nat.{ℕ, _*_, _≤_};
 ghost use lib.ListN.{length};
-ghost use Rattle.sizes.specs.Sizes.{mostTones, mostWords, toneCommand, silenceCommand};
+ghost use Rattle.sizes.specs.Sizes.{mostTones, mostWords, gapCommand, toneCommand, silenceCommand};
 ghost use Rattle.lists.specs.Lent.{before, after};
 ghost use Rattle.sheet.specs.Reading.{reading};
-ghost use Rattle.tidyform.specs.Tidy.{mapBytes};
+ghost use Rattle.tidyform.specs.Tidy.{mapBytes, gapBytes};
 ghost use Rattle.tidy.specs.Tidying.{tidying, tidyNumbers, tidyOutcome, afterTidying};
 ghost use Rattle.tidy.specs.Copies.{copies};
+use gaps::Gap;
 use refusals::Refusal;
 use sheet::Read;
 use sizes::BUDGET_COMMAND;
@@ -18,12 +19,23 @@ use sizes::END_COMMAND;
 use sizes::GAP_COMMAND;
 use sizes::SILENCE_COMMAND;
 use sizes::SIZE_COMMAND;
+use sizes::TENTHS_COMMAND;
 use sizes::TONE_COMMAND;
 use sizes::TONES;
 use sizes::WORDS;
 
-// The bytes of a tidy form without tones: the first three commands and the end.
-const BARE_BYTES: usize = SIZE_COMMAND + GAP_COMMAND + BUDGET_COMMAND + END_COMMAND;
+// The bytes of a tidy form besides its gap, its tones and its words: the size, the budget and the end.
+const OTHER_BYTES: usize = SIZE_COMMAND + BUDGET_COMMAND + END_COMMAND;
+
+// How many bytes the gap's command takes.
+fn gap_bytes(gap: Gap) -> usize
+    ensures { λ r. ⌜ (r ≡ length (gapBytes gap)) × (r ≤ gapCommand) ⌝ }
+{
+    match gap {
+        Gap::Parts(_) => GAP_COMMAND,
+        Gap::Tenths(_) => TENTHS_COMMAND,
+    }
+}
 
 // How many bytes the described tones take, in any sheet.
 fn tones_bytes(size: u16, places: &[u16; TONES]) -> usize
@@ -74,7 +86,11 @@ pub fn tidy(s: &[u8], out: &mut [u8]) -> Tidied
     match read {
         Read::Refused(refusal) => Tidied::Refused(refusal),
         Read::Accepted(header) => {
-            let bytes = BARE_BYTES + tones_bytes(header.size, &places) + words_bytes(&maps);
+            let gap = header.gap;
+            let bytes = OTHER_BYTES
+                + gap_bytes(gap)
+                + tones_bytes(header.size, &places)
+                + words_bytes(&maps);
             if out.len() < bytes {
                 return Tidied::Refused(Refusal::DestinationTooSmall);
             }

@@ -1,4 +1,4 @@
-// The tidy form of a line, written into a lent buffer: document 01, 'The line sheet'.
+// The tidy form of a line, written into a lent buffer: document 01, 'The line sheet', and document 02, W1.
 ghost use mathlib.Core.Path.{_≡_};
 ghost use Prim.Native.Nat.{ℕ, _+_, _≤_};
 ghost use lib.ListN.{length, getD};
@@ -10,11 +10,13 @@ ghost use Rattle.sheet.specs.Reading.{accepted, reading};
 ghost use Rattle.sheet.specs.Index.{Indexed};
 ghost use Rattle.tidyform.specs.Tidy.{wordBytes, mapBytes, gapBytes, headBytes, tidy};
 ghost use Rattle.tidy.specs.Copies.{part, Inside, toneCopy, copies};
+use gaps::Gap;
 use rows::Header;
 use sizes::BUDGET_COMMAND;
 use sizes::GAP_COMMAND;
 use sizes::SILENCE_COMMAND;
 use sizes::SIZE_COMMAND;
+use sizes::TENTHS_COMMAND;
 use sizes::TONE_COMMAND;
 use sizes::TONES;
 use sizes::WORDS;
@@ -93,15 +95,24 @@ fn put_words(out: &mut [u8], at: usize, maps: &[u32; WORDS]) -> usize
     place
 }
 
-// The gap's command, from a place on. Answers the place after it.
-fn put_gap(out: &mut [u8], at: usize, gap: u16) -> usize
+// The gap's command, the one that the sheet had, from a place on. Answers the place after it.
+fn put_gap(out: &mut [u8], at: usize, gap: Gap) -> usize
     requires { ⌜ at + length (gapBytes gap) ≤ length (now out) ⌝ }
     ensures place { λ r. ⌜ r ≡ at + length (gapBytes gap) ⌝ }
     ensures bytes { λ r. ⌜ after out ≡ sets (before out) at (gapBytes gap) ⌝ }
 {
-    out[at] = 2;
-    bigendian::put_number(out, at + 1, 2, gap as u64);
-    at + GAP_COMMAND
+    match gap {
+        Gap::Parts(parts) => {
+            out[at] = 2;
+            bigendian::put_number(out, at + 1, 2, parts as u64);
+            at + GAP_COMMAND
+        }
+        Gap::Tenths(tenths) => {
+            out[at] = 8;
+            out[at + 1] = tenths;
+            at + TENTHS_COMMAND
+        }
+    }
 }
 
 // The first three commands, from the buffer's start on. Answers the place after them.
@@ -112,7 +123,8 @@ fn put_header(out: &mut [u8], header: Header) -> usize
 {
     out[0] = 1;
     bigendian::put_number(out, 1, 2, header.size as u64);
-    let at = put_gap(out, SIZE_COMMAND, header.gap);
+    let gap = header.gap;
+    let at = put_gap(out, SIZE_COMMAND, gap);
     out[at] = 3;
     bigendian::put_number(out, at + 1, 8, header.budget);
     at + BUDGET_COMMAND

@@ -9,10 +9,12 @@ use native.Mathlib.Omega.{arith}
 use lib.Bits.{bitOr}
 use lib.ListN.{length, getD, set, length-append}
 use lib.Seq.{getD-set-other}
-use Rattle.sizes.specs.Sizes.{mostTones, longestSheet, wordsOf, sizeCommand, gapCommand, budgetCommand, toneCommand, silenceCommand, endCommand}
+use Rattle.sizes.specs.Sizes.{mostTones, longestSheet, wordsOf, sizeCommand, gapCommand, tenthsCommand, budgetCommand, toneCommand, silenceCommand, endCommand}
 use Rattle.lists.proofs.Stores.{all-same}
 use Rattle.bigendian.proofs.Numbers.{length-bytes}
 use Rattle.bigendian.proofs.Stores.{length-none, length-next}
+use Rattle.gaps.specs.declared.Gap.{Gap}
+use Rattle.gaps.specs.declared.Gap.the-variants.{Parts, Tenths}
 use Rattle.line.specs.Line.{Entry, undescribed, described, Line}
 use Rattle.rows.specs.declared.Header.{Header}
 use Rattle.rows.specs.declared.Command.the-variants.{Describe, Silence}
@@ -97,9 +99,17 @@ pub length-head : (h : Header) → length (headBytes h) ≡ sizeCommand + length
 unfolding headBytes
 length-head h = simp (length-append, length-bytes)
 
-pub length-gap : (g : ℕ) → length (gapBytes g) ≡ gapCommand
+pub length-parts : (g : ℕ) → length (gapBytes (Parts g)) ≡ gapCommand
 unfolding gapBytes
-length-gap g = simp (length-append, length-bytes)
+length-parts g = simp (length-append, length-bytes)
+
+pub length-tenths : (d : ℕ) → length (gapBytes (Tenths d)) ≡ tenthsCommand
+unfolding gapBytes
+length-tenths d = simp (length-append, length-bytes)
+
+pub length-gap-le : (g : Gap) → length (gapBytes g) ≤ gapCommand
+length-gap-le (Parts g) = omega (arith, length-parts g)
+length-gap-le (Tenths d) = omega (arith, length-tenths d)
 
 -- with 1 for 07
 pub length-tidy : (l : Line) → length (tidy l) ≡ length (headBytes (headerOf l)) + (length (toneBytes (l .size) (l .entries)) + length (mapBytes (wordsOf (l .size)) (l .maps))) + endCommand
@@ -110,7 +120,7 @@ length-tidy l = simp length-append (omega arith)
 pub tidy-short : (l : Line) → l .size ≤ mostTones → length (tidy l) ≤ longestSheet
 tidy-short l h =
     let words = wordsOf (l .size) in
-    omega (arith, length-tidy l, length-head (headerOf l), length-gap (l .gap), all-le tones toneCommand length-entry-le (l .size) (l .entries), all-le maps silenceCommand length-word-le words (l .maps))
+    omega (arith, length-tidy l, length-head (headerOf l), length-gap-le (l .gap), all-le tones toneCommand length-entry-le (l .size) (l .entries), all-le maps silenceCommand length-word-le words (l .maps))
 
 -- nothing described and nothing silenced
 pub tidy-bare : (h : Header) → length (tidy (bareLine h)) ≡ length (headBytes h) + endCommand

@@ -19,12 +19,15 @@ use Rattle.lists.proofs.Stores.{all-same}
 use Rattle.bigendian.proofs.Numbers.{bytes-one}
 use Rattle.silence.proofs.Maps.{clear-beyond}
 use Rattle.line.specs.declared.Tone.{Tone}
-use Rattle.line.specs.Tone.{carried, isSingle, gapUnit, InRange}
+use Rattle.gaps.specs.declared.Gap.{Gap}
+use Rattle.gaps.specs.declared.Gap.the-variants.{Parts, Tenths}
+use Rattle.gaps.specs.Gap.{gapUnit, mostGap, mostTenths, GapInRange}
+use Rattle.line.specs.Tone.{carried, isSingle, InRange}
 use Rattle.line.specs.Line.{Entry, undescribed, described, EntryInRange, LineInRange, Line}
 use Rattle.rows.specs.declared.Command.the-variants.{Describe, Silence}
-use Rattle.rows.specs.Rows.{gap, budget, end}
+use Rattle.rows.specs.Rows.{gap, tenths, budget, end}
 use Rattle.rows.specs.Codes.{sizeRow, toneRow, silenceRow}
-use Rattle.sheet.specs.Reading.{accepted, readingIn, reading, emptyLine, afterCommand, go}
+use Rattle.sheet.specs.Reading.{accepted, readingIn, reading, bareLine, emptyLine, afterCommand, go}
 use Rattle.sheet.proofs.Sound.{Sound}
 use Rattle.tidyform.specs.Tidy.{written, numbersOf, entryBytes, wordBytes, toneBytes, mapBytes, gapBytes, headBytes, tidy}
 use Rattle.tidyform.proofs.Parts.{row-is-tone}
@@ -154,14 +157,21 @@ module _ (l : Line) (S : Sound l) where
   unfolding part
   part-all = rw (filled-all undescribed (l .size) (l .entries) (S .entries-sized), filled-all 0 (wordsOf (l .size)) (l .maps) (S .maps-sized))
 
+  -- the gap's command, of either unit
+  gap-ends : (g : Gap) (n : ℕ) (q : List ℕ) → GapInRange g → Reads q 2 (bareLine (record { size = n; gap = g; budget = 0 })) (accepted l)
+      → Reads (gapBytes g ++ q) 1 (bareLine (record { size = n; gap = Parts 0; budget = 0 })) (accepted l)
+  unfolding gapBytes
+  gap-ends (Parts g) n q I = reads-written _ 1 gap (g ∷ []) q refl (ranged 2 gapUnit mostGap g (omega arith) (I .low) (I .high) nothing) (λ s at k d. refl)
+  gap-ends (Tenths d) n q I = reads-written _ 1 tenths (d ∷ []) q refl (ranged 1 0 mostTenths d (omega arith) (omega arith) I nothing) (λ s at k d. refl)
+
   -- the first three commands
   head-ends : (q : List ℕ) → Ends l q 0 0
       → Reads (written sizeRow (l .size ∷ []) ++ (gapBytes (l .gap) ++ (written budget (l .budget ∷ []) ++ q))) 0 emptyLine (accepted l)
-  unfolding part filled gapBytes
+  unfolding part filled
   head-ends q ends =
       let I : LineInRange l = S .in-range in
       reads-written emptyLine 0 sizeRow (l .size ∷ []) _ refl (ranged 2 1 mostTones (l .size) (omega arith) (I .size-low) (I .size-high) nothing) (λ s at k d. refl)
-      (reads-written _ 1 gap (l .gap ∷ []) _ refl (ranged 2 gapUnit 65535 (l .gap) (omega arith) (I .gap .low) (I .gap .high) nothing) (λ s at k d. refl)
+      (gap-ends (l .gap) (l .size) _ (I .gap)
       (reads-written _ 2 budget (l .budget ∷ []) q refl (ranged 8 0 mostPower (l .budget) (omega arith) (omega arith) (I .budget-high) nothing) (λ s at k d. refl) ends))
 
   tidy-parts : tidy l ≡ written sizeRow (l .size ∷ []) ++ (gapBytes (l .gap) ++ (written budget (l .budget ∷ [])

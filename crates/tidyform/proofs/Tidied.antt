@@ -20,7 +20,7 @@ use Rattle.sheet.proofs.Walk.{Leads, accepted-by}
 use Rattle.sheet.proofs.Sound.{Bytes, accepted-sound}
 use Rattle.tidyform.specs.Tidy.{gapBytes, tidy}
 use Rattle.tidyform.specs.Claims.{TidyKeeps}
-use Rattle.tidyform.proofs.Length.{length-gap, length-head, tidy-short, tidy-bare, tidy-describe, tidy-silence}
+use Rattle.tidyform.proofs.Length.{length-parts, length-tenths, length-head, tidy-short, tidy-bare, tidy-describe, tidy-silence}
 use Rattle.tidyform.proofs.RoundTrip.{tidy-reads}
 
 -- After so many of the first three commands the sheet has their bytes, and after all three those of its line's tidy form but for the
@@ -37,7 +37,7 @@ module _ (s : List ℕ) where
 
   long : (at stage : ℕ) (l : Line) → Long at stage l → Each (Leads today s Long NoLonger at stage l) (today .rows stage)
   long at zero l h = (λ is inside p. omega arith, tt)
-  long at (suc zero) l h = (λ is inside p. omega (arith, length-gap (number s (at + 1) 2)), tt)
+  long at (suc zero) l h = (λ is inside p. omega (arith, length-parts (number s (at + 1) 2)), (λ is inside p. omega (arith, length-tenths (number s (at + 1) 1)), tt))
   long at (suc (suc zero)) l h =
       let k : Header = record { size = l .size; gap = l .gap; budget = number s (at + 1) 8 } in
       (λ is inside p. omega (arith, tidy-bare k, length-head k), tt)

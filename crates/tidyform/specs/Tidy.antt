@@ -1,4 +1,4 @@
--- The tidy form of a line. Document 01, 'The line sheet'.
+-- The tidy form of a line. Document 01, 'The line sheet'; document 02, W1.
 -- Assumes nothing.
 use mathlib.Core.Bool.{cond}
 use mathlib.Core.List.{List, [], _∷_, _++_}
@@ -7,11 +7,13 @@ use lib.Dec.{eqb}
 use lib.ListN.{getD}
 use Rattle.sizes.specs.Sizes.{wordsOf}
 use Rattle.bigendian.specs.Number.{bytes}
+use Rattle.gaps.specs.declared.Gap.{Gap}
+use Rattle.gaps.specs.declared.Gap.the-variants.{Parts, Tenths}
 use Rattle.line.specs.declared.Numbers.{Numbers}
 use Rattle.line.specs.Tone.{carried, isSingle}
 use Rattle.line.specs.Line.{Entry, undescribed, described, Line}
 use Rattle.rows.specs.declared.Header.{Header}
-use Rattle.rows.specs.Rows.{Row, Operand, gap, budget, end}
+use Rattle.rows.specs.Rows.{Row, Operand, gap, tenths, budget, end}
 use Rattle.rows.specs.Codes.{sizeRow, toneRow, silenceRow}
 use Rattle.sheet.specs.Reading.{headerOf}
 
@@ -44,10 +46,12 @@ unfoldable pub mapBytes : (count : ℕ) → (maps : List ℕ) → List ℕ
 mapBytes zero maps = []
 mapBytes (suc n) maps = mapBytes n maps ++ wordBytes n (getD maps n 0)
 
--- '01, 02, 03'
-unfoldable pub gapBytes : (g : ℕ) → List ℕ
-gapBytes g = written gap (g ∷ [])
+-- W1: 'The tidy form keeps whichever command the sheet had.'
+unfoldable pub gapBytes : Gap → List ℕ
+gapBytes (Parts g) = written gap (g ∷ [])
+gapBytes (Tenths d) = written tenths (d ∷ [])
 
+-- '01, 02, 03', with 08 in the place of 02 where the sheet had it
 unfoldable pub headBytes : Header → List ℕ
 unfolding gapBytes
 headBytes h = written sizeRow (h .size ∷ []) ++ gapBytes (h .gap) ++ written budget (h .budget ∷ [])

@@ -2,18 +2,21 @@
 use Prim.Native.Nat.{_-_}
 use native.Mathlib.Omega.{arith}
 use borrow.Author.Needs.{needs}
-use Rattle.arrays.proofs.Filling.{FillingOf, size-high, gap-in-range, tone-in-range, filled-next, filled-line, filling-starts}
+use Rattle.arrays.proofs.Filling.{FillingOf, header-gap, size-high, gap-in-range, tone-in-range, filled-next, filled-line, filling-starts}
 use Rattle.arrays.proofs.fill_arrays.Statement.{statement}
 use Rattle.arrays.proofs.fill_arrays.Tie as tie
 
 abbrev Inv-loop : tie.InvT-loop
-Inv-loop s header places maps limits₀ costs₀ doublings₀ i₀ limits costs doublings i = FillingOf s header places maps limits costs doublings i
+Inv-loop s header places maps limits₀ costs₀ doublings₀ parts i₀ limits costs doublings i = FillingOf s header places maps limits costs doublings i
 
 abbrev μ-loop : tie.MeasureT-loop
-μ-loop s header places maps limits₀ costs₀ doublings₀ i₀ limits costs doublings i = header .size - i
+μ-loop s header places maps limits₀ costs₀ doublings₀ parts i₀ limits costs doublings i = header .size - i
+
+parts-requires : tie.Need-parts-requires Inv-loop μ-loop
+parts-requires c κs = header-gap (λ i. c .shared-slice-known .given i .fits) (c .before .pre)
 
 loop-holds : tie.Need-loop-holds Inv-loop μ-loop
-loop-holds c = filling-starts (λ i. c .before .before .before .shared-slice-known .given i .fits) (c .before .before .before .before .pre)
+loop-holds c = filling-starts (λ i. c .before .before .before .before .shared-slice-known .given i .fits) (c .before .before .before .before .before .pre)
 
 cast-tone : tie.Need-cast-tone Inv-loop μ-loop
 cast-tone c = omega (arith, size-high (c .before .before .loop .inv))
@@ -25,7 +28,10 @@ element-copy-out-steps-at : tie.Need-element-copy-out-steps-at Inv-loop μ-loop
 element-copy-out-steps-at c = omega (arith, size-high (c .before .before .before .loop .inv))
 
 steps-at-requires : tie.Need-steps-at-requires Inv-loop μ-loop
-steps-at-requires c κs = let l = c .before .before .before .before in (gap-in-range (l .loop .inv), tone-in-range (l .loop .inv) (c .before .before .if1 .taken))
+steps-at-requires c κs =
+    let l = c .before .before .before .before in
+    let in-range = rw (← l .before .before .before .before .parts .ensures) at (gap-in-range (l .loop .inv)) in
+    (in-range, tone-in-range (l .loop .inv) (c .before .before .if1 .taken))
 
 element-write-limits : tie.Need-element-write-limits Inv-loop μ-loop
 element-write-limits c = omega (arith, size-high (c .before .before .before .before .before .loop .inv))
@@ -48,7 +54,7 @@ loop-less c = omega arith
 loop-again : tie.Need-loop-again Inv-loop μ-loop
 loop-again c =
     let l = c .before .before .before .before .before in
-    filled-next (l .loop .inv) (c .before .before .before .if1 .taken) _ (c .before .before .is-silenced .ensures) _ (c .steps-at .ensures)
+    filled-next (l .loop .inv) (c .before .before .before .if1 .taken) _ (c .before .before .is-silenced .ensures) _ (rw (l .before .before .before .before .parts .ensures) at (c .steps-at .ensures))
 
 returns : tie.Need-returns Inv-loop μ-loop
 returns c = filled-line (c .before .before .loop .inv) (omega arith)
@@ -59,6 +65,7 @@ fill-arrays-spec =
     (tie.spec
     Inv-loop
     μ-loop
+    parts-requires
     loop-holds
     (λ c. search needs)
     cast-tone

@@ -44,8 +44,8 @@ mul-decode c = record { fits = omega (arith, c .addressed .ensures .1) }
 element-copy-out-decode : tie.Need-element-copy-out-decode Inv-loop μ-loop
 element-copy-out-decode c = c .addressed .ensures .1
 
-cast-t22 : tie.Need-cast-t22 Inv-loop μ-loop
-cast-t22 c = let k = known (c .before .before .before) _ (c .before .enum-told .given .1) in record { fits = omega arith }
+cast-t23 : tie.Need-cast-t23 Inv-loop μ-loop
+cast-t23 c = let k = known (c .before .before .before) _ (c .before .enum-told .given .1) in record { fits = omega arith }
 
 returns : tie.Need-returns Inv-loop μ-loop
 returns c = on-more (c .before .before .before .before .before .before .loop .inv) (met (c .before .before .before)) (c .before .enum-told .given .1) (c .if1 .taken)
@@ -104,7 +104,7 @@ read-commands-spec =
     element-copy-out-decode
     (λ c κs. search needs)
     (λ c. search needs)
-    cast-t22
+    cast-t23
     returns
     returns-2
     (λ c. search needs)

@@ -8,7 +8,7 @@ use Rattle.sheet.specs.Reading.{accepted, reading}
 use Rattle.sheet.specs.Index.{Indexed}
 use Rattle.sheet.proofs.Uses.{indexed, refused-is, size-high}
 use Rattle.tidyform.specs.Tidy.{tidy}
-use Rattle.tidyform.proofs.Length.{length-gap, length-head}
+use Rattle.tidyform.proofs.Length.{length-head}
 use Rattle.tidy.proofs.Index.{tidy-bytes}
 use Rattle.tidy.proofs.Outcomes.{turned-down, too-small, written}
 use borrow.Author.Needs.{needs}
@@ -19,28 +19,38 @@ use Rattle.tidy.proofs.tidy.Tie as tie
 index : (c : tie.After-read2) → (let r = c .before .before .read-sheet in Indexed (c .before .before .before .before .before .before .before .args .s .now) (c .read2 .given .0 .0) (r .last .1 .0) (r .last .1 .1 .0))
 index c = indexed (c .before .before .read-sheet .ensures) (c .read2 .given .1)
 
+-- where its reading was accepted, from where all was counted
+abbrev accepted-at : tie.After-words-bytes → tie.After-read2
+accepted-at c = c .before .before .before .before .before .before
+
 -- what is counted is the length of its tidy form
-counted : (c : tie.After-words-bytes) (l : Line) → reading (c .before .before .before .before .before .before .before .before .before .before .before .before .args .s .now) ≡ accepted l
-    → 16 + c .before .before .tones-bytes .result + c .words-bytes .result ≡ length (tidy l)
+counted : (c : tie.After-words-bytes) (l : Line) → reading (accepted-at c .before .before .before .before .before .before .before .args .s .now) ≡ accepted l
+    → 13 + c .before .before .before .before .gap-bytes .result + c .before .before .tones-bytes .result + c .words-bytes .result ≡ length (tidy l)
 counted c l e =
-    let k = c .before .before .before .before .before .before .before .before .before .before .before in
-    let bytes = tidy-bytes (index (c .before .before .before .before .before)) (λ i. k .shared-slice-known .given i .fits) l e in
-    let h = c .before .before .before .before .before .read2 .given .0 .0 in
-    omega (arith, bytes, length-head h, length-gap (h .gap), c .before .before .tones-bytes .ensures .0 (k .before .args .s .now), c .words-bytes .ensures .0)
+    let k = accepted-at c .before .before .before .before .before .before in
+    let bytes = tidy-bytes (index (accepted-at c)) (λ i. k .shared-slice-known .given i .fits) l e in
+    omega (
+      arith,
+      bytes,
+      length-head (accepted-at c .read2 .given .0 .0),
+      c .before .before .before .before .gap-bytes .ensures .0,
+      c .before .before .tones-bytes .ensures .0 (k .before .args .s .now),
+      c .words-bytes .ensures .0,
+    )
 
 tones-bytes-requires : tie.Need-tones-bytes-requires
-tones-bytes-requires c κs = size-high (index (c .before .before)) (λ i. c .before .before .before .before .before .before .before .before .shared-slice-known .given i .fits)
+tones-bytes-requires c κs = size-high (index (c .before .before .before)) (λ i. c .before .before .before .before .before .before .before .before .before .shared-slice-known .given i .fits)
 
 returns : tie.Need-returns
 returns c =
     let n = c .before in
-    let x = index (n .before .before .before .before .before) in
-    too-small (x .means) (n .before .before .before .before .before .before .before .before .before .before .before .before .args .out .now) (counted n (x .line) (x .means)) (c .if1 .taken)
+    let x = index (accepted-at n) in
+    too-small (x .means) (accepted-at n .before .before .before .before .before .before .before .args .out .now) (counted n (x .line) (x .means)) (c .if1 .taken)
 
 put-line-requires : tie.Need-put-line-requires
 put-line-requires c κs =
     let i = c .before .before .before in
-    (index (i .before .before .before .before .before .before), λ l e. omega (arith, counted (i .before) l e, i .if1 .left))
+    (index (accepted-at (i .before)), λ l e. omega (arith, counted (i .before) l e, i .if1 .left))
 
 returns-2 : tie.Need-returns-2
 returns-2 c = turned-down _ (c .before .before .before .before .before .before .before .before .args .out .now) (refused-is (c .before .before .before .read-sheet .ensures) (c .before .read .given .1))
@@ -49,8 +59,8 @@ returns-3 : tie.Need-returns-3
 returns-3 c =
     let i = c .before .before .before .before .before .before in
     let n = i .before in
-    let x = index (n .before .before .before .before .before) in
-    let w = written (x .means) (n .before .before .before .before .before .before .before .before .before .before .before .before .args .out .now) (counted n (x .line) (x .means)) (i .if1 .left) in
+    let x = index (accepted-at n) in
+    let w = written (x .means) (accepted-at n .before .before .before .before .before .before .before .args .out .now) (counted n (x .line) (x .means)) (i .if1 .left) in
     (w .0, (w .1 .0, c .before .before .put-line .ensures (x .line) (x .means) ∙ w .1 .1))
 
 pub tidy-spec : {M : Type 1} → statement M
@@ -59,6 +69,8 @@ tidy-spec =
     (tie.spec
     (λ c κs. search needs)
     (λ c. search needs)
+    (λ c. search needs)
+    (λ c κs. search needs)
     (λ c. search needs)
     tones-bytes-requires
     (λ c. search needs)

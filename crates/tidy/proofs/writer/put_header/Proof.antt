@@ -6,7 +6,7 @@ use lib.ListN.{length, length-set}
 use Rattle.sizes.specs.Sizes.{sizeCommand, budgetCommand}
 use Rattle.bigendian.proofs.Numbers.{number-fits}
 use Rattle.tidyform.specs.Tidy.{gapBytes}
-use Rattle.tidyform.proofs.Length.{length-gap, length-head}
+use Rattle.tidyform.proofs.Length.{length-gap-le, length-head}
 use Rattle.tidy.proofs.Writes.{head-stores}
 use borrow.Author.Needs.{needs}
 use Rattle.tidy.proofs.writer.put_header.Statement.{statement}
@@ -38,12 +38,12 @@ slice-write-out-2 c = let g = c .before .before in rw (kept-gap g) (omega (arith
 add-put-number : tie.Need-add-put-number
 add-put-number c =
     let g = c .before .before .before in
-    record { fits = omega (arith, g .put-gap .ensures .0, length-gap (start g .args .header .gap)) }
+    record { fits = omega (arith, g .put-gap .ensures .0, length-gap-le (start g .args .header .gap)) }
 
 add-result : tie.Need-add-result
 add-result c =
     let g = c .before .before .before .before .before .before in
-    record { fits = omega (arith, g .put-gap .ensures .0, length-gap (start g .args .header .gap)) }
+    record { fits = omega (arith, g .put-gap .ensures .0, length-gap-le (start g .args .header .gap)) }
 
 same-length : tie.Need-same-length
 same-length c = c .before .before .put-number2 .kept .0 ∙ simp length-set (kept-gap (c .before .before .before .before .before .before))
