@@ -13,7 +13,7 @@ use borrow.Author.Needs.{needs}
 use lib.ListN.{length, getD}
 use Rattle.sizes.specs.Sizes.{longestSheet}
 use Rattle.line.specs.Line.{Entry}
-use Rattle.refusals.specs.declared.Refusal.the-variants.{SheetTooLong, SheetEnds, CommandNotAllowed}
+use Rattle.refusals.specs.declared.Refusal.the-variants.{SheetTooLong, CommandNotAllowed}
 use Rattle.rows.specs.declared.Header.{Header}
 use Rattle.rows.specs.declared.Command.the-variants.{Refused}
 use Rattle.rows.specs.Rows.{Row, pair, single, end, withCode}

@@ -1,10 +1,9 @@
--- The gap of so many tenths of a decibel is what W1 calls it, and lies in the gap's range. So is each entry of a
--- table that passes a test.
+-- The gap of so many tenths of a decibel is what W1 calls it, and lies in the gap's range; so is each entry of a table that passes a test.
 -- Assumes nothing.
 use mathlib.Core.Bool.{Bool, true, false, cond}
 use mathlib.Core.List.{List, [], _∷_}
-use mathlib.Core.Path.{_≡_, sym, subst, _∙_}
-use Prim.Native.Nat.{ℕ, zero, suc, _+_, _-_, _*_, _^_, _≤_, _<_}
+use mathlib.Core.Path.{_≡_, sym, subst}
+use Prim.Native.Nat.{ℕ, zero, suc, _+_, _-_, _^_, _≤_, _<_}
 use native.Mathlib.Decide.{decLe}
 use native.Mathlib.Nat.{le-trans, lt-of-lt-of-le, not-le-of-lt, pow-le-pow-left, pow-le-pow-right, mul-le-mul-left, le-mul-of-pos-right, one-le-pow, zero-add}
 use native.Mathlib.Omega.{arith}
@@ -12,7 +11,7 @@ use lib.Dec.{T, leb, ltb, lit<, lit≤}
 use lib.ListN.{getD}
 use Rattle.gaps.specs.declared.Gap.{Gap}
 use Rattle.gaps.specs.declared.Gap.the-variants.{Parts, Tenths}
-use Rattle.gaps.specs.Gap.{gapUnit, mostGap, mostTenths, Reaches, Smallest, gapOfTenths, TenthsTable, parts, PartsInRange, GapInRange}
+use Rattle.gaps.specs.Gap.{gapUnit, mostGap, mostTenths, threshold, Reaches, Smallest, gapOfTenths, TenthsTable, parts, PartsInRange, GapInRange}
 use Rattle.gaps.proofs.Smallest.{smallest-is, smallest-unique}
 
 -- ---- the rule
@@ -34,13 +33,13 @@ most-reaches d h = le-trans (mul-le-mul-left (gapUnit ^ 100) (pow-le-pow-right {
 -- no number below 256 reaches any
 unit-least : (d k : ℕ) → Reaches d k → gapUnit ≤ k
 unit-least d k h =
-    stops 100 (gapUnit ^ 100 * 10 ^ d) gapUnit (lt-of-lt-of-le (lit< tt) (le-mul-of-pos-right (gapUnit ^ 100) (one-le-pow d 10 (lit< tt)))) k h
+    stops 100 (threshold d) gapUnit (lt-of-lt-of-le (lit< tt) (le-mul-of-pos-right (gapUnit ^ 100) (one-le-pow d 10 (lit< tt)))) k h
 
 -- W1: 'the smallest whole g with g^100 at least 256^100 × 10^d', for every d up to 240
 pub tenths-smallest : (d : ℕ) → d ≤ mostTenths → Smallest (Reaches d) (gapOfTenths d)
 unfolding gapOfTenths
 tenths-smallest d h =
-    smallest-is (λ g. decLe (gapUnit ^ 100 * 10 ^ d) (g ^ 100)) mostGap (most-reaches d h) (suc mostGap) 0 (λ j q. omega arith) (lit< tt)
+    smallest-is (λ g. decLe (threshold d) (g ^ 100)) mostGap (most-reaches d h) (suc mostGap) 0 (λ j q. omega arith) (lit< tt)
 
 tenths-in-range : (d : ℕ) → d ≤ mostTenths → PartsInRange (gapOfTenths d)
 tenths-in-range d h =
@@ -56,7 +55,7 @@ parts-in-range (Tenths d) I = tenths-in-range d I
 
 -- an entry reaches its tenth, and the number before it does not
 unfoldable pub right : (d g : ℕ) → Bool
-right d g = cond (leb (gapUnit ^ 100 * 10 ^ d) (g ^ 100)) (ltb ((g - 1) ^ 100) (gapUnit ^ 100 * 10 ^ d)) false
+right d g = cond (leb (threshold d) (g ^ 100)) (ltb ((g - 1) ^ 100) (threshold d)) false
 
 -- the n entries from tenth d on are there, and right
 unfoldable pub allRight : (d n : ℕ) → List ℕ → Bool
@@ -73,8 +72,8 @@ passed false b t = absurd t
 right-smallest : (d g : ℕ) → T (right d g) → Smallest (Reaches d) g
 unfolding right
 right-smallest d g t =
-    let p = passed (leb (gapUnit ^ 100 * 10 ^ d) (g ^ 100)) (ltb ((g - 1) ^ 100) (gapUnit ^ 100 * 10 ^ d)) t in
-    record { passes = lit≤ (p .0); least = λ k h. stops 100 (gapUnit ^ 100 * 10 ^ d) g (lit< (p .1)) k h }
+    let p = passed (leb (threshold d) (g ^ 100)) (ltb ((g - 1) ^ 100) (threshold d)) t in
+    record { passes = lit≤ (p .0); least = λ k h. stops 100 (threshold d) g (lit< (p .1)) k h }
 
 entry-right : (d n : ℕ) (gs : List ℕ) → T (allRight d n gs) → (i : ℕ) → i < n → T (right (d + i) (getD gs i 0))
 unfolding allRight

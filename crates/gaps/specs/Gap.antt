@@ -24,8 +24,11 @@ abbrev pub mostTenths : ℕ
 mostTenths = 240
 
 -- W1: 'g^100 at least 256^100 × 10^d'
+abbrev pub threshold : (d : ℕ) → ℕ
+threshold d = gapUnit ^ 100 * 10 ^ d
+
 abbrev pub Reaches : (d g : ℕ) → Type 0
-Reaches d g = gapUnit ^ 100 * 10 ^ d ≤ g ^ 100
+Reaches d g = threshold d ≤ g ^ 100
 
 -- W1: 'the smallest whole g with ..': no smaller whole number passes
 pub record Smallest (P : ℕ → Type 0) (g : ℕ) : Type 0 where
@@ -40,7 +43,7 @@ smallest test (suc n) k = ite (test k) k (smallest test n (suc k))
 -- W1: 'The gap is then the smallest whole g with g^100 at least 256^100 × 10^d', which is looked for up to the largest gap.
 unfoldable pub gapOfTenths : (d : ℕ) → ℕ
 unfolding smallest
-gapOfTenths d = smallest (λ g. decLe (gapUnit ^ 100 * 10 ^ d) (g ^ 100)) (suc mostGap) 0
+gapOfTenths d = smallest (λ g. decLe (threshold d) (g ^ 100)) (suc mostGap) 0
 
 -- W1: 'from a table of 241 entries, one for each tenth, whose rule is shown over the whole table together'
 pub record TenthsTable (gaps : List ℕ) : Type 0 where

@@ -69,19 +69,21 @@ pub record LoadAlike (s t : List ℕ) : Type 0 where
   pub means-line : reading s ≡ accepted line
   pub means-other : reading t ≡ accepted other
   pub different : line ≡ other → ⊥
+  pub same-budget : line .budget ≡ other .budget
   pub alike : tones line ≡ tones other
 
--- the sample's line, for its tones
-abbrev l : Line
-l = line-of (reading sample)
+-- the sample's line, whose gap is another
+abbrev sampleLine : Line
+sampleLine = line-of (reading sample)
 
 pub ten-decibels : LoadAlike inParts inTenths
 unfolding number bytes numberAt namesBeyond some rowAt decoded readFrom readingIn right
 ten-decibels = record {
-  line = withGap l (Parts 2560);
-  other = withGap l (Tenths 100);
+  line = withGap sampleLine (Parts 2560);
+  other = withGap sampleLine (Tenths 100);
   means-line = refl;
   means-other = refl;
-  different = units-differ l l 2560 100;
-  alike = loads-alike l (Parts 2560) (Tenths 100) (right-is 100 2560 tt (omega arith));
+  different = units-differ sampleLine sampleLine 2560 100;
+  same-budget = refl;
+  alike = loads-alike sampleLine (Parts 2560) (Tenths 100) (right-is 100 2560 tt (omega arith));
 }

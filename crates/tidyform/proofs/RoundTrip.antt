@@ -1,6 +1,7 @@
 -- A line in its tidy form reads back as that line. Laws:
 --   filled-all                        a list filled from the front is the list
 --   tones-end, maps-end, head-ends    the tones, the maps and the first three commands read on to the whole line
+--   gap-ends                          the gap's command does, of either unit
 --   tidy-reads                        so does the tidy form
 -- Assumes nothing.
 use mathlib.Core.Path.{_≡_, refl, sym, ap, _∙_}

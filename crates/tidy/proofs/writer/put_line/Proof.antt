@@ -9,7 +9,6 @@ use Rattle.sheet.proofs.Uses.{size-high}
 use Rattle.tidyform.specs.Tidy.{headBytes, mapBytes}
 use Rattle.tidy.specs.Copies.{copies}
 use Rattle.tidy.proofs.Index.{tones-inside, tidy-bytes, tidy-stores}
-use borrow.Author.Needs.{needs}
 use Rattle.tidy.proofs.writer.put_line.Statement.{statement}
 use Rattle.tidy.proofs.writer.put_line.Tie as tie
 
