@@ -3,21 +3,22 @@
 use mathlib.Core.Path.{_≡_, refl, sym, ap, _∙_}
 use mathlib.Core.Bool.{Bool, true, false}
 use mathlib.Core.List.{List}
-use Prim.Native.Nat.{ℕ, suc, _-_, _*_, _^_, _≤_, _<_}
-use native.Mathlib.Nat.{mul-le-mul-left, le-trans}
+use Prim.Native.Nat.{ℕ, suc, _*_, _^_, _≤_, _<_}
+use native.Mathlib.Decide.{decLt}
+use native.Mathlib.Nat.{mul-le-mul-left, mul-le-mul-right, le-trans}
 use native.Mathlib.Omega.{arith}
 use lib.ListN.{getD, replicate, length-replicate}
-use Rattle.sizes.specs.Sizes.{mostTones}
+use Rattle.sizes.specs.Sizes.{mostTones, pairCap}
 use Rattle.lists.proofs.Stores.{all-same}
 use Rattle.silence.specs.Map.{silenced}
-use Rattle.steps.specs.Tones.{Tones, step, Rising, Table, _!_, noBits, sum, totalBits}
+use Rattle.steps.specs.Tones.{Tones, step, Rising, Table, _!_, noBits, sum, totalBits, totalPower}
 use Rattle.steps.proofs.Sums.{sum-zero, sum-eq}
 use Rattle.gaps.specs.Gap.{PartsInRange}
 use Rattle.gaps.proofs.Rule.{parts-in-range}
 use Rattle.line.specs.declared.Steps.{Steps}
 use Rattle.line.specs.Tone.{cost, doublings, limit}
 use Rattle.line.specs.Line.{Entry, undescribed, described, Line, gapOf, entryOf, entryLimit, tones, EntryInRange, LineInRange, noSteps, entrySteps, stepsAt}
-use Rattle.line.specs.Arrays.{Arrays, costAt, doublingsAt, stepSize, ArraysInRange, Under, Describes, StandsFor, ArraysOf}
+use Rattle.line.specs.Arrays.{Arrays, limitAt, costAt, doublingsAt, stepSize, ArraysInRange, Under, Describes, StandsFor, ArraysOf}
 use Rattle.line.proofs.Ceiling.{cost-range}
 use Rattle.line.proofs.Growth.{doublings-low, shift-at-most}
 use Rattle.line.proofs.Limits.{limit-is}
@@ -79,26 +80,29 @@ module _ {count : ℕ} {A : Arrays} {T : Tones} (D : Describes count A T) where
   same-step i b il bl = rw (D .same-power i (suc b) il bl, D .same-power i b il (omega arith))
 
   -- no bits beside them stand for the table of no bits
-  pub no-bits-stand : Rising T → count ≤ mostTones → StandsFor count A (replicate mostTones 0) 0 T (noBits T)
-  no-bits-stand R small = record {
+  pub no-bits-stand : Rising T → StandsFor count A (replicate mostTones 0) T (noBits T)
+  no-bits-stand R = record {
     describes = D;
     rising = R;
     within = record { sized = length-replicate (T .count) 0; under = λ i il. omega (arith, none i) };
     same-bits = λ i il. none i ∙ sym (all-same mostTones i 0);
-    same-power = sym (sum-zero (T .count) (λ i. T .power i (noBits T ! i)) (λ i il. power i (omega (arith, D .same-count))));
   }
     where
       none : (i : ℕ) → noBits T ! i ≡ 0
       none i = all-same (T .count) i 0
 
+  -- 'no bits, no power'
+  pub no-bits-no-power : totalPower T (noBits T) ≡ 0
+  no-bits-no-power = sum-zero (T .count) (λ i. T .power i (noBits T ! i)) (λ i il. power i (omega (arith, D .same-count)))
+    where
       power : (i : ℕ) → i < count → T .power i (noBits T ! i) ≡ 0
       power i il =
           let z : doublingsAt A i * 0 ≡ 0 = omega arith in
-          ap (T .power i) (none i) ∙ D .same-power i 0 il (omega arith) ∙ rw z (omega arith)
+          ap (T .power i) (all-same (T .count) i 0) ∙ D .same-power i 0 il (omega arith) ∙ rw z (omega arith)
 
 -- ---- tables beside arrays
 
-module _ {count : ℕ} {A : Arrays} {bits : List ℕ} {power : ℕ} {T : Tones} {t : Table} (S : StandsFor count A bits power T t) where
+module _ {count : ℕ} {A : Arrays} {bits : List ℕ} {T : Tones} {t : Table} (S : StandsFor count A bits T t) where
   pub stands-under : Under count A bits
   stands-under = record { under = λ i il. omega (arith, S .same-bits i il, S .within .under i (omega (arith, S .describes .same-count)), S .describes .same-limit i il) }
 
@@ -108,6 +112,14 @@ module _ {count : ℕ} {A : Arrays} {bits : List ℕ} {power : ℕ} {T : Tones} 
     where
       sum-same : T .count ≡ count → sum count (λ i. getD bits i 0) ≡ totalBits T t
       sum-same e = rw (sym e) (sum-eq (T .count) _ _ (λ i il. sym (S .same-bits i (omega arith))))
+
+-- a tone that takes bits has a doubling, so its limit is at most 15
+pub limit-small : {count : ℕ} {A : Arrays} → ArraysInRange count A → (i : ℕ) → i < count → limitAt A i ≤ pairCap
+limit-small {A = A} R i il = by (decLt 0 (limitAt A i))
+  where
+    by : Dec (0 < limitAt A i) → limitAt A i ≤ pairCap
+    by (no m) = omega arith
+    by (yes q) = omega (arith, R .shift-high i il, mul-le-mul-right (limitAt A i) (R .cost-low i il q .1))
 
 -- bits under the limits keep the shifts in range
 pub shift-under : {count : ℕ} {A : Arrays} {bits : List ℕ} → ArraysInRange count A → Under count A bits → (i : ℕ) → i < count → doublingsAt A i * getD bits i 0 ≤ 15

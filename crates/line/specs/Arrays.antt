@@ -1,5 +1,5 @@
 -- The tones of a line as arrays of numbers, so that the runs have one path for both kinds: limits, costs, and by how many doublings a step
--- grows from bit to bit. What the arrays say of tones, and what bits and a total power beside them say of a table.
+-- grows from bit to bit. What the arrays say of tones, and what bits beside them say of a table.
 -- Assumes nothing.
 use mathlib.Core.List.{List}
 use mathlib.Core.Path.{_≡_}
@@ -9,7 +9,7 @@ use denote.Triple.Both.{Both}
 use lib.ListN.{length, getD}
 use Rattle.sizes.specs.Sizes.{mostTones}
 use Rattle.lists.specs.Lent.{before, after}
-use Rattle.steps.specs.Tones.{Tones, Rising, Table, _!_, totalPower, KeepsLimits}
+use Rattle.steps.specs.Tones.{Tones, Rising, Table, _!_, KeepsLimits}
 use Rattle.line.specs.Line.{Line, stepsAt}
 
 pub record Arrays : Type 0 where
@@ -70,13 +70,12 @@ pub record Describes (count : ℕ) (A : Arrays) (T : Tones) : Type 0 where
   pub same-limit : (i : ℕ) → i < count → T .limit i ≡ limitAt A i
   pub same-power : (i b : ℕ) → i < count → b ≤ T .limit i → T .power i b ≡ powerAt A i b
 
--- Beside the arrays, bits and a total power stand for table t of tones T, which keeps the limits; the steps of T rise.
-pub record StandsFor (count : ℕ) (A : Arrays) (bits : List ℕ) (power : ℕ) (T : Tones) (t : Table) : Type 0 where
+-- Beside the arrays, bits stand for table t of tones T, which keeps the limits; the steps of T rise.
+pub record StandsFor (count : ℕ) (A : Arrays) (bits : List ℕ) (T : Tones) (t : Table) : Type 0 where
   pub describes : Describes count A T
   pub rising : Rising T
   pub within : KeepsLimits T t
   pub same-bits : (i : ℕ) → i < count → t ! i ≡ getD bits i 0
-  pub same-power : power ≡ totalPower T t
 
 -- The arrays are those of a line, whole: past its N tones there is nothing.
 pub record ArraysOf (l : Line) (A : Arrays) : Type 0 where

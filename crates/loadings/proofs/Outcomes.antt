@@ -63,12 +63,12 @@ pub record Wrote (count : ℕ) (A : Arrays) (T : Tones) (r : Running) (t : Table
 module _ {count : ℕ} {A : Arrays} {T : Tones} {ran : Ran} {r : Running} {bits : ℕ} {old new : List ℕ} (W : Wrote count A T r (ran .table) bits old new)
     (on : (room : ℕ) → Loading) (e : on (length old) ≡ loaded T ran) where
   total : bits ≡ totalBits T (ran .table)
-  total = W .added-up ∙ stands-bits (W .stands)
+  total = W .added-up ∙ stands-bits (W .stands .table)
 
   buffer : new ≡ tableBytes T (ran .table) ++ drop (bytesATone * T .count) old
   buffer =
-      W .written (r .power) T (ran .table) (W .stands)
-      ∙ table-written T (ran .table) old (omega (arith, W .room, W .stands .describes .same-count))
+      W .written T (ran .table) (W .stands .table)
+      ∙ table-written T (ran .table) old (omega (arith, W .room, W .stands .table .describes .same-count))
 
   pub load-done : LoadsAs (load.Totals bits (r .power)) old new on
   load-done = loads-as on old (simp (e, total, W .stands .same-power)) (simp e buffer)

@@ -4,7 +4,7 @@
 use mathlib.Core.Path.{_≡_, refl, sym, _∙_}
 use Prim.Native.Nat.{ℕ, _+_, _*_, _^_, _≤_, _<_}
 use native.Mathlib.Decide.{decLt}
-use native.Mathlib.Nat.{lt-of-lt-of-le, mul-le-mul, mul-le-mul-left, le-trans}
+use native.Mathlib.Nat.{lt-of-lt-of-le, mul-le-mul-left, le-trans}
 use native.Mathlib.Omega.{arith}
 use borrow.Author.Tests.{lt-ltb, le-ltb}
 use lib.Pow.{pow-mono, shl-lt}
@@ -14,13 +14,13 @@ use Rattle.steps.specs.Runs.{Answer, moved, finished, addStep, Ran, follow, run
 use Rattle.steps.proofs.Enough.{moves-at-most, most-bits-enough, set-bits-adds, bits-are-moves}
 use Rattle.steps.proofs.Sums.{sum-at-most}
 use Rattle.line.specs.Arrays.{Arrays, limitAt, doublingsAt, PowersInRange}
-use Rattle.line.proofs.Arrays.{no-bits-stand, stands-under, shift-under}
+use Rattle.line.proofs.Arrays.{no-bits-no-power, stands-under, limit-small, shift-under}
 use Rattle.running.specs.declared.Running.{Running}
 use Rattle.running.specs.declared.Progress.{Progress}
 use Rattle.running.specs.declared.Progress.the-variants.{Moved, Finished}
 use Rattle.running.specs.Running.{Stands, Runnable}
 use Rattle.wholeruns.specs.WholeRuns.{progressAfter}
-use Rattle.starts.specs.Starts.{noBitsYet}
+use Rattle.starts.specs.Starts.{StartsAtNone}
 use Rattle.loadings.specs.Loads.{Loadable}
 use Rattle.loadings.specs.Refits.{stepped}
 
@@ -33,18 +33,9 @@ module _ {count : ℕ} {A : Arrays} {T : Tones} (L : Loadable count A T) where
   inside : (i : ℕ) → i < T .count → i < count
   inside i il = omega (arith, L .describes .same-count)
 
-  limit-high : (i : ℕ) → i < T .count → T .limit i ≤ pairCap
-  limit-high i il = rw (L .describes .same-limit i (inside i il)) (by (decLt 0 (limitAt A i)))
-    where
-      by : Dec (0 < limitAt A i) → limitAt A i ≤ pairCap
-      by (no n) = omega arith
-      by (yes h) =
-          let one = mul-le-mul {n₁ = 1} {m₁ = limitAt A i} {n₂ = doublingsAt A i} {m₂ = limitAt A i} (L .in-range .cost-low i (inside i il) h .1) (omega arith) in
-          omega (arith, one, L .in-range .shift-high i (inside i il))
-
   -- no line's limits add up to more
   pub limits-high : sumOfLimits T ≤ mostBitsOfAll
-  limits-high = omega (arith, few, sum-at-most (T .count) pairCap (T .limit) limit-high)
+  limits-high = omega (arith, few, sum-at-most (T .count) pairCap (T .limit) (λ i il. rw (L .describes .same-limit i (inside i il)) (limit-small (L .in-range) i (inside i il))))
 
   power-high : (i b : ℕ) → i < T .count → b ≤ T .limit i → T .power i b ≤ 2 ^ 39
   power-high i b il bl =
@@ -63,19 +54,19 @@ module _ {count : ℕ} {A : Arrays} {T : Tones} (L : Loadable count A T) where
   runnable {t = t} S = record { tones = T; table = t; in-range = L .in-range; stands = S; bounded = bounded }
 
   -- the running table of no bits
-  pub none-stands : {r : Running} → r ≡ noBitsYet → Stands count A r T (noBits T)
-  none-stands e = rw e (no-bits-stand (L .describes) (L .rising) (L .in-range .count-high))
+  pub none-stands : {r : Running} → StartsAtNone r → Stands count A r T (noBits T)
+  none-stands h = h count A T (L .describes) (L .rising)
 
   -- the powers of a running table that stands for a table of T are in range
   pub writable : {r : Running} {t : Table} → Stands count A r T t → PowersInRange count (A .costs) (A .doublings) (r .bits)
-  writable S = record { cost-high = L .in-range .cost-high; shift-high = shift-under (L .in-range) (stands-under S) }
+  writable S = record { cost-high = L .in-range .cost-high; shift-high = shift-under (L .in-range) (stands-under (S .table)) }
 
   -- ---- enough moves
 
   module _ (budget : ℕ) where
     -- 'No bits, no power'
     pub none-fits : KeepsBudget T budget (noBits T)
-    none-fits = omega (arith, no-bits-stand (L .describes) (L .rising) (L .in-range .count-high) .same-power)
+    none-fits = omega (arith, no-bits-no-power (L .describes))
 
     most-run : run (addStep T budget) mostBitsOfAll (noBits T) ≡ mostBits T budget
     most-run = most-bits-enough T (L .rising) budget none-fits mostBitsOfAll limits-high

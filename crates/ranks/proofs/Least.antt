@@ -38,8 +38,7 @@ module _ {n : ℕ} {rankOf : ℕ → ℕ} {ranks : List ℕ} {r : ℕ} (K : Keep
 
 -- ---- those of a table's steps
 
-module _ {count : ℕ} {A : Arrays} {bits : List ℕ} {power : ℕ} {T : Tones} {t : Table}
-    (I : ArraysInRange count A) (S : StandsFor count A bits power T t) where
+module _ {count : ℕ} {A : Arrays} {bits : List ℕ} {T : Tones} {t : Table} (I : ArraysInRange count A) (S : StandsFor count A bits T t) where
   inside : {i : ℕ} → i < count → i < T .count
   inside l = omega (arith, S .describes .same-count)
 

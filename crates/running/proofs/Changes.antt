@@ -1,121 +1,139 @@
--- What a move does to a running table. The laws: `limit-small`, a limit is at most 15; `followed`, the kept ranks follow a store;
--- `takes-inside`, `gives-up-inside`, a step that is called for is of one of the tones; `knows`, what the code knows of the table that the
--- running table stands for; `power-high`, the total leaves room for a step; `can-take`, `can-give-up`, `can-exchange`, the code may make the
--- move that is called for; `answers`, after it the running table stands for the table that the rule leaves.
+-- What a move does to a running table. The laws: `took`, `gave-up`, `exchanges`, what each move leads to; `next-free`, `last-held`, `both`, the
+-- table allows the move that is called for; `knows`, what the code knows of the table that the running table stands for; `power-high`, the
+-- total leaves room for a step; `can-take`, `can-give-up`, `can-exchange`, the code may make the move that the table allows.
 -- Assumes nothing.
 use mathlib.Core.List.{List}
-use mathlib.Core.Path.{_≡_, refl, sym, ap, _∙_}
-use Prim.Native.Nat.{ℕ, suc, _-_, _^_, _≤_, _<_}
-use native.Mathlib.Decide.{decLt, ℕ-discrete}
-use native.Mathlib.Nat.{mul-le-mul-right}
+use mathlib.Core.Path.{_≡_, sym, ap, _∙_}
+use Prim.Native.Nat.{ℕ, suc, _-_, _^_, _<_}
+use native.Mathlib.Decide.{ℕ-discrete}
 use native.Mathlib.Omega.{arith}
-use lib.ListN.{length, getD, set, length-set}
+use lib.ListN.{length, getD, set}
 use lib.Seq.{getD-set-same, getD-set-other}
-use Rattle.sizes.specs.Sizes.{mostTones, pairCap}
-use Rattle.steps.specs.Tones.{Tones, step, Table, _!_, Free}
+use Rattle.sizes.specs.Sizes.{mostTones}
+use Rattle.steps.specs.Tones.{Tones, step, Table, _!_, KeepsLimits}
 use Rattle.steps.specs.Runs as rule
 use Rattle.steps.proofs.Search.{Earliest, earliestFree-is, Latest, latestHeld-is}
 use Rattle.steps.proofs.Changes.{taking-within, total-taking, givingUp-within, total-givingUp, same-bits, earliest-givingUp}
 use Rattle.steps.proofs.Order.{before-place}
-use Rattle.line.specs.Arrays.{Arrays, limitAt, costAt, doublingsAt, ArraysInRange}
+use Rattle.line.specs.Arrays.{Arrays, limitAt, costAt, doublingsAt, ArraysInRange, StandsFor}
 use Rattle.line.proofs.Arrays.{stands-under}
-use Rattle.ranks.specs.Ranks.{freeRank, heldRank, rankFree}
+use Rattle.ranks.specs.Ranks.{freeRank, heldRank, rankFree, Ranked}
 use Rattle.ranks.proofs.Kept.{ranked-set}
 use Rattle.moves.specs.declared.Rule.{Rule}
 use Rattle.moves.specs.declared.Step.{Step}
-use Rattle.moves.specs.declared.Move.{Move}
-use Rattle.moves.specs.declared.Move.the-variants.{Nothing, Take, GiveUp, Exchange}
-use Rattle.moves.specs.Moves.{LatestAt, Knows, Takes, GivesUp, Exchanges, CallsFor}
+use Rattle.moves.specs.Moves.{LatestAt, Knows, Takes, GivesUp, Exchanges}
 use Rattle.moves.proofs.Named.{small}
-use Rattle.running.specs.declared.Progress.the-variants.{Moved, Finished}
 use Rattle.running.specs.declared.Running.{Running}
-use Rattle.running.specs.declared.Stepped.{Stepped}
-use Rattle.running.specs.Running.{taken, givenUp, CanTake, CanGiveUp, RanksFollow, Stands, Runnable, AnswersAs}
+use Rattle.running.specs.Running.{Stands, Runnable, taken, givenUp, CanTake, CanGiveUp, NextFree, LastHeld, Leads}
 
--- a tone that takes bits has a doubling, so its limit is at most 15
-pub limit-small : {count : ℕ} {A : Arrays} → ArraysInRange count A → (i : ℕ) → i < count → limitAt A i ≤ pairCap
-limit-small {A = A} I i l = by (decLt 0 (limitAt A i))
-  where
-    by : Dec (0 < limitAt A i) → limitAt A i ≤ pairCap
-    by (no m) = omega arith
-    by (yes q) = omega (arith, I .shift-high i l, mul-le-mul-right (limitAt A i) (I .cost-low i l q .1))
+-- ---- one tone's bits change
 
--- the ranks of a tone are stored with its bits
-pub followed : {A : Arrays} {s : Step} {r : Running} {free held newFree newHeld : List ℕ} → s .tone < mostTones → length (r .bits) ≡ mostTones
-    → (length free ≡ mostTones) × (length held ≡ mostTones) → (b p : ℕ)
-    → newFree ≡ set free (s .tone) (freeRank (s .tone) (limitAt A (s .tone)) (costAt A (s .tone)) (doublingsAt A (s .tone)) b)
-    → newHeld ≡ set held (s .tone) (heldRank (s .tone) (costAt A (s .tone)) (doublingsAt A (s .tone)) b)
-    → RanksFollow A s r (record { bits = set (r .bits) (s .tone) b; power = p }) free held newFree newHeld
-followed {s = s} l n m b p f h = record {
-  still-ranked = λ count q R. rw (f, h) (ranked-set R (s .tone) b q (omega arith) (omega arith) (omega arith));
-}
-
--- ---- the table that a running table stands for
-
-module _ {count : ℕ} {A : Arrays} {r : Running} {T : Tones} {t : Table} (S : Stands count A r T t) where
+module _ {count : ℕ} {A : Arrays} {bits : List ℕ} {T : Tones} {t : Table} (S : StandsFor count A bits T t) where
   inside : {i : ℕ} → i < T .count → i < count
   inside l = omega (arith, S .describes .same-count)
 
   -- the same bits stored in both
-  stored : (i v : ℕ) → i < T .count → i < length (r .bits) → (j : ℕ) → j < count → set t i v ! j ≡ getD (set (r .bits) i v) j 0
-  stored i v il rl j jl = by (ℕ-discrete j i)
+  stored : (i v : ℕ) → i < T .count → i < length bits → KeepsLimits T (set t i v) → StandsFor count A (set bits i v) T (set t i v)
+  stored i v il bl K = record { describes = S .describes; rising = S .rising; within = K; same-bits = λ j jl. by j jl (ℕ-discrete j i) }
     where
-      by : Dec (j ≡ i) → set t i v ! j ≡ getD (set (r .bits) i v) j 0
-      by (yes e) = rw e (getD-set-same t i v 0 (omega (arith, S .within .sized)) ∙ sym (getD-set-same (r .bits) i v 0 rl))
-      by (no m) = getD-set-other t i j v 0 m ∙ S .same-bits j jl ∙ sym (getD-set-other (r .bits) i j v 0 m)
+      by : (j : ℕ) → j < count → Dec (j ≡ i) → set t i v ! j ≡ getD (set bits i v) j 0
+      by j jl (yes e) = rw e (getD-set-same t i v 0 (omega (arith, S .within .sized)) ∙ sym (getD-set-same bits i v 0 bl))
+      by j jl (no m) = getD-set-other t i j v 0 m ∙ S .same-bits j jl ∙ sym (getD-set-other bits i j v 0 m)
 
-  take-stands : {f : Step} → Free T t (f .tone) (t ! f .tone) → f .size ≡ step T (f .tone) (t ! f .tone) → f .tone < length (r .bits)
-      → Stands count A (taken r f) T (rule.taking t (f .tone))
-  take-stands {f} F e l = record {
-    describes = S .describes;
-    rising = S .rising;
-    within = taking-within T (S .within) F;
-    same-bits = rw (← S .same-bits (f .tone) (inside (F .tone))) (stored (f .tone) (suc (t ! f .tone)) (F .tone) l);
-    same-power = omega (arith, e, S .same-power, total-taking T (S .rising) (S .within) F);
+-- the bits and the ranks of tone i are stored
+pub record Stored (A : Arrays) (bits free held newFree newHeld : List ℕ) (i b : ℕ) : Type 0 where
+  pub low : i < mostTones
+  pub long : length bits ≡ mostTones
+  pub ranks-long : (length free ≡ mostTones) × (length held ≡ mostTones)
+  pub free-rank : newFree ≡ set free i (freeRank i (limitAt A i) (costAt A i) (doublingsAt A i) b)
+  pub held-rank : newHeld ≡ set held i (heldRank i (costAt A i) (doublingsAt A i) b)
+
+followed : {count : ℕ} {A : Arrays} {bits free held newFree newHeld : List ℕ} {i b : ℕ} → Stored A bits free held newFree newHeld i b
+    → i < count → Ranked count A bits free held → Ranked count A (set bits i b) newFree newHeld
+followed {i = i} {b} P l R = rw (P .free-rank, P .held-rank) (ranked-set R i b l (omega (arith, P .low, P .long)) (omega (arith, P .low, P .ranks-long)) (omega (arith, P .low, P .ranks-long)))
+
+-- ---- what each move leads to
+
+module _ {count : ℕ} {A : Arrays} {r : Running} {T : Tones} {t : Table} (S : Stands count A r T t) where
+  take-stands : {f : Step} → f .tone < length (r .bits) → NextFree T t f → Stands count A (taken r f) T (rule.taking t (f .tone))
+  take-stands {f} l F =
+      let B = S .table in
+      let il = F .free .tone in
+      record {
+        table = rw (← B .same-bits (f .tone) (inside B il)) (stored B (f .tone) (suc (t ! f .tone)) il l (taking-within T (B .within) (F .free)));
+        same-power = omega (arith, F .sized, S .same-power, total-taking T (B .rising) (B .within) (F .free));
+      }
+
+  give-up-stands : {h : Step} → h .tone < length (r .bits) → LastHeld T t h → Stands count A (givenUp r h) T (rule.givingUp t (h .tone))
+  give-up-stands {h} l H =
+      let B = S .table in
+      let il = H .held .tone in
+      let top : t ! h .tone ≡ suc (t ! h .tone - 1) = omega (arith, H .held .held) in
+      record {
+        table = rw (← B .same-bits (h .tone) (inside B il)) (stored B (h .tone) (t ! h .tone - 1) il l (givingUp-within T (B .within) il top));
+        same-power = omega (arith, H .sized, S .same-power, total-givingUp T (B .rising) (B .within) il top);
+      }
+
+module _ {A : Arrays} {r : Running} {free held newFree newHeld : List ℕ} where
+  pub took : {f : Step} → Stored A (r .bits) free held newFree newHeld (f .tone) (suc (getD (r .bits) (f .tone) 0))
+      → Leads A r (taken r f) free held newFree newHeld (λ T t. NextFree T t f) (λ t. rule.taking t (f .tone))
+  took P = record {
+    stands = λ count T t S F. take-stands S (omega (arith, P .low, P .long)) F;
+    ranked = λ count T t S F. followed P (inside (S .table) (F .free .tone));
   }
 
-  give-up-stands : {h : Step} → Latest T t (h .tone) (t ! h .tone - 1) → h .size ≡ step T (h .tone) (t ! h .tone - 1) → h .tone < length (r .bits)
-      → Stands count A (givenUp r h) T (rule.givingUp t (h .tone))
-  give-up-stands {h} L e l = record {
-    describes = S .describes;
-    rising = S .rising;
-    within = givingUp-within T (S .within) (L .tone) (L .top);
-    same-bits = rw (← S .same-bits (h .tone) (inside (L .tone))) (stored (h .tone) (t ! h .tone - 1) (L .tone) l);
-    same-power = omega (arith, e, S .same-power, total-givingUp T (S .rising) (S .within) (L .tone) (L .top));
+  pub gave-up : {h : Step} → Stored A (r .bits) free held newFree newHeld (h .tone) (getD (r .bits) (h .tone) 0 - 1)
+      → Leads A r (givenUp r h) free held newFree newHeld (λ T t. LastHeld T t h) (λ t. rule.givingUp t (h .tone))
+  gave-up P = record {
+    stands = λ count T t S H. give-up-stands S (omega (arith, P .low, P .long)) H;
+    ranked = λ count T t S H. followed P (inside (S .table) (H .held .tone));
   }
 
-  -- the steps of the move that is called for
+-- one after the other
+pub exchanges : {A : Arrays} {old fewer r : Running} {free held midFree midHeld newFree newHeld : List ℕ} {h f : Step}
+    → Leads A old fewer free held midFree midHeld (λ T t. LastHeld T t h) (λ t. rule.givingUp t (h .tone))
+    → Leads A fewer r midFree midHeld newFree newHeld (λ T t. NextFree T t f) (λ t. rule.taking t (f .tone))
+    → Leads A old r free held newFree newHeld (λ T t. LastHeld T t h × NextFree T (rule.givingUp t (h .tone)) f) (λ t. rule.taking (rule.givingUp t (h .tone)) (f .tone))
+exchanges {h = h} G K = record {
+  stands = λ count T t S B. K .stands count T (rule.givingUp t (h .tone)) (G .stands count T t S (B .0)) (B .1);
+  ranked = λ count T t S B R. K .ranked count T (rule.givingUp t (h .tone)) (G .stands count T t S (B .0)) (B .1) (G .ranked count T t S (B .0) R);
+}
+
+-- ---- the table allows the move that is called for
+
+module _ {count : ℕ} {A : Arrays} {r : Running} {T : Tones} {t : Table} (S : Stands count A r T t) where
   earliest : {f : Step} → Takes T t f → Earliest T t (f .tone)
-  earliest N = rw (N .found) at (earliestFree-is T (S .rising) t)
+  earliest N = rw (N .found) at (earliestFree-is T (S .table .rising) t)
 
   latest : {h : Step} → GivesUp T t h → Latest T t (h .tone) (t ! h .tone - 1)
-  latest N = rw (N .found) at (latestHeld-is T (S .rising) t (S .within))
+  latest N = rw (N .found) at (latestHeld-is T (S .table .rising) t (S .table .within))
 
-  pub takes-inside : {f : Step} → Takes T t f → f .tone < count
-  takes-inside N = inside (earliest N .free .tone)
+  pub next-free : {f : Step} → Takes T t f → NextFree T t f
+  next-free N = record { free = earliest N .free; sized = N .sized }
 
-  pub gives-up-inside : {h : Step} → GivesUp T t h → h .tone < count
-  gives-up-inside N = inside (latest N .tone)
+  pub last-held : {h : Step} → GivesUp T t h → LastHeld T t h
+  last-held N = let L = latest N in record { held = record { tone = L .tone; held = omega (arith, L .top) }; sized = N .sized }
 
   -- once the later step is given up, the earlier one is free still, and of the same size
-  module _ {h f : Step} (N : Exchanges T t h f) where
-    still-free : Free T (rule.givingUp t (h .tone)) (f .tone) (rule.givingUp t (h .tone) ! f .tone)
-    still-free =
-        let E = earliest (N .takes) in
-        earliest-givingUp T (S .rising) (S .within) E (latest (N .gives-up)) (before-place T (E .free .tone) (N .before)) .free
-
-    still-sized : f .size ≡ step T (f .tone) (rule.givingUp t (h .tone) ! f .tone)
-    still-sized =
-        let E = earliest (N .takes) in
-        let same = same-bits T (S .rising) (S .within) E (latest (N .gives-up)) (before-place T (E .free .tone) (N .before)) in
-        N .takes .sized ∙ ap (step T (f .tone)) (sym same)
+  pub both : {h f : Step} → Exchanges T t h f → LastHeld T t h × NextFree T (rule.givingUp t (h .tone)) f
+  both {h} {f} N =
+      let B = S .table in
+      let E = earliest (N .takes) in
+      let L = latest (N .gives-up) in
+      let q = before-place T (E .free .tone) (N .before) in (
+        last-held (N .gives-up),
+        record {
+          free = earliest-givingUp T (B .rising) (B .within) E L q .free;
+          sized = N .takes .sized ∙ ap (step T (f .tone)) (sym (same-bits T (B .rising) (B .within) E L q));
+        },
+      )
 
   pub knows : ArraysInRange count A → {by : Rule} {first last : ℕ} → first ≡ rankFree T t (rule.earliestFree T t) → LatestAt by T t last
       → Knows by T t (r .power) first last
   knows I e l = record {
-    small = small I (S .describes);
-    rising = S .rising;
-    within = S .within;
+    small = small I (S .table .describes);
+    rising = S .table .rising;
+    within = S .table .within;
     same-power = S .same-power;
     earliest-at = e;
     latest-at = l;
@@ -125,69 +143,44 @@ module _ {count : ℕ} {A : Arrays} {r : Running} {T : Tones} {t : Table} (S : S
 
 module _ {count : ℕ} {A : Arrays} {r : Running} (R : Runnable count A r) where
   pub power-high : r .power < 2 ^ 62
-  power-high = omega (arith, R .stands .same-power, R .bounded (R .table) (R .stands .within))
+  power-high = omega (arith, R .stands .same-power, R .bounded (R .table) (R .stands .table .within))
 
-  can-take-free : {f : Step} → Free (R .tones) (R .table) (f .tone) (R .table ! f .tone) → f .size ≡ step (R .tones) (f .tone) (R .table ! f .tone)
-      → CanTake A r f
-  can-take-free {f} F e =
-      let S = R .stands in
-      let l = inside S (F .tone) in
+  pub can-take : {f : Step} → NextFree (R .tones) (R .table) f → CanTake A r f
+  can-take {f} F =
+      let S = R .stands .table in
+      let l = inside S (F .free .tone) in
       record {
         count = count;
         in-range = R .in-range;
         tone = l;
-        free = omega (arith, F .below, S .same-bits (f .tone) l, S .describes .same-limit (f .tone) l);
-        bounded = omega (arith, e, S .same-power, R .bounded _ (taking-within (R .tones) (S .within) F), total-taking (R .tones) (S .rising) (S .within) F);
+        free = omega (arith, F .free .below, S .same-bits (f .tone) l, S .describes .same-limit (f .tone) l);
+        bounded = omega (
+          arith,
+          F .sized,
+          R .stands .same-power,
+          R .bounded _ (taking-within (R .tones) (S .within) (F .free)),
+          total-taking (R .tones) (S .rising) (S .within) (F .free),
+        );
       }
 
-  pub can-take : {f : Step} → Takes (R .tones) (R .table) f → CanTake A r f
-  can-take N = can-take-free (earliest (R .stands) N .free) (N .sized)
-
-  pub can-give-up : {h : Step} → GivesUp (R .tones) (R .table) h → CanGiveUp A r h
-  can-give-up {h} N =
-      let S = R .stands in
-      let L = latest S N in
-      let l = inside S (L .tone) in
+  pub can-give-up : {h : Step} → LastHeld (R .tones) (R .table) h → CanGiveUp A r h
+  can-give-up {h} H =
+      let S = R .stands .table in
+      let l = inside S (H .held .tone) in
+      let top : R .table ! h .tone ≡ suc (R .table ! h .tone - 1) = omega (arith, H .held .held) in
       record {
         count = count;
         in-range = R .in-range;
         tone = l;
-        held = omega (arith, L .top, S .same-bits (h .tone) l);
+        held = omega (arith, H .held .held, S .same-bits (h .tone) l);
         under = stands-under S .under (h .tone) l;
-        bounded = omega (arith, N .sized, S .same-power, total-givingUp (R .tones) (S .rising) (S .within) (L .tone) (L .top));
+        bounded = omega (arith, H .sized, R .stands .same-power, total-givingUp (R .tones) (S .rising) (S .within) (H .held .tone) top);
       }
 
-module _ {count : ℕ} {A : Arrays} {r : Running} (R : Runnable count A r) where
-  -- after the later step of an exchange is given up
-  pub can-exchange : {h f : Step} → length (r .bits) ≡ mostTones → Exchanges (R .tones) (R .table) h f → CanTake A (givenUp r h) f
-  can-exchange {h} n N =
-      let S = R .stands in
-      let L = latest S (N .gives-up) in
-      let l : h .tone < length (r .bits) = omega (arith, inside S (L .tone), R .in-range .count-high) in
-      let next = give-up-stands S L (N .gives-up .sized) l in
-      can-take-free (record { tones = R .tones; table = _; in-range = R .in-range; stands = next; bounded = R .bounded }) (still-free S N) (still-sized S N)
-
--- ---- the table that the move which is called for leads to
-
--- the running table after a move, with the answer
-abbrev pub steppedBy : Running → Move → Stepped
-steppedBy r Nothing = record { running = r; progress = Finished }
-steppedBy r (Take f) = record { running = taken r f; progress = Moved }
-steppedBy r (GiveUp h) = record { running = givenUp r h; progress = Moved }
-steppedBy r (Exchange h f) = record { running = taken (givenUp r h) f; progress = Moved }
-
-module _ {count : ℕ} {A : Arrays} {r : Running} {T : Tones} {t : Table} (I : ArraysInRange count A) (n : length (r .bits) ≡ mostTones)
-    (S : Stands count A r T t) where
-  sized : {i : ℕ} → i < T .count → i < length (r .bits)
-  sized l = omega (arith, inside S l, I .count-high)
-
-  pub answers : (m : Move) (a : rule.Answer) → CallsFor T t m a → AnswersAs count A r (steppedBy r m) T a
-  answers Nothing a N = rw N (refl, refl)
-  answers (Take f) a N = let E = earliest S (N .1) in rw (N .0) (refl, take-stands S (E .free) (N .1 .sized) (sized (E .free .tone)))
-  answers (GiveUp h) a N = let L = latest S (N .1) in rw (N .0) (refl, give-up-stands S L (N .1 .sized) (sized (L .tone)))
-  answers (Exchange h f) a N =
-      let L = latest S (N .1 .gives-up) in
-      let fewer = give-up-stands S L (N .1 .gives-up .sized) (sized (L .tone)) in
-      let F = still-free S (N .1) in
-      let l : f .tone < length (givenUp r h .bits) = rw (length-set (r .bits) (h .tone) (getD (r .bits) (h .tone) 0 - 1)) (sized (F .tone)) in
-      rw (N .0) (refl, take-stands fewer F (still-sized S (N .1)) l)
+-- after the later step of an exchange is given up
+pub can-exchange : {count : ℕ} {A : Arrays} {r : Running} (R : Runnable count A r) {h f : Step} → length (r .bits) ≡ mostTones
+    → LastHeld (R .tones) (R .table) h × NextFree (R .tones) (rule.givingUp (R .table) (h .tone)) f → CanTake A (givenUp r h) f
+can-exchange {r = r} R {h} n B =
+    let S = R .stands in
+    let l : h .tone < length (r .bits) = omega (arith, inside (S .table) (B .0 .held .tone), R .in-range .count-high) in
+    can-take (record { tones = R .tones; table = _; in-range = R .in-range; stands = give-up-stands S l (B .0); bounded = R .bounded }) (B .1)

@@ -4,7 +4,8 @@ ghost use mathlib.Core.Path.{_≡_};
 ghost use Rattle.lists.specs.Lent.{before, after};
 ghost use Rattle.line.specs.Arrays.{arrays, arraysBefore};
 ghost use Rattle.ranks.specs.Ranks.{Ranked};
-ghost use Rattle.running.specs.Running.{taken, givenUp, CanTake, CanGiveUp, RanksFollow, Runnable, StepsBy};
+ghost use Rattle.steps.specs.Runs.{taking, givingUp};
+ghost use Rattle.running.specs.Running.{taken, givenUp, exchanged, CanTake, CanGiveUp, NextFree, LastHeld, Leads, Runnable, StepsBy};
 use moves::Move;
 use moves::Rule;
 use moves::Step;
@@ -43,7 +44,8 @@ impl Running {
     ) -> Running
         requires { ⌜ CanTake (arrays (now limits) (now costs) (now doublings)) self f ⌝ }
         ensures { λ r. ⌜ r ≡ taken self f ⌝ }
-        ensures { λ r. ⌜ RanksFollow (arraysBefore limits costs doublings) f self r (before free) (before held) (after free) (after held) ⌝ }
+        ensures { λ r. ⌜ Leads (arraysBefore limits costs doublings) self r (before free) (before held) (after free) (after held)
+            (λ T t. NextFree T t f) (λ t. taking t (f .tone)) ⌝ }
     {
         let mut bits = self.bits;
         let tone = f.tone;
@@ -75,7 +77,8 @@ impl Running {
     ) -> Running
         requires { ⌜ CanGiveUp (arrays (now limits) (now costs) (now doublings)) self h ⌝ }
         ensures { λ r. ⌜ r ≡ givenUp self h ⌝ }
-        ensures { λ r. ⌜ RanksFollow (arraysBefore limits costs doublings) h self r (before free) (before held) (after free) (after held) ⌝ }
+        ensures { λ r. ⌜ Leads (arraysBefore limits costs doublings) self r (before free) (before held) (after free) (after held)
+            (λ T t. LastHeld T t h) (λ t. givingUp t (h .tone)) ⌝ }
     {
         let mut bits = self.bits;
         let tone = h.tone;
@@ -93,6 +96,27 @@ impl Running {
             held,
         );
         self
+    }
+
+    // Exchanges a held step for a free one of another tone.
+    fn exchange(
+        mut self,
+        h: Step,
+        f: Step,
+        limits: &[u8; TONES],
+        costs: &[u32; TONES],
+        doublings: &[u8; TONES],
+        free: &mut [u64; TONES],
+        held: &mut [u64; TONES],
+    ) -> Running
+        requires { ⌜ CanGiveUp (arrays (now limits) (now costs) (now doublings)) self h ⌝ }
+        requires { ⌜ CanTake (arrays (now limits) (now costs) (now doublings)) (givenUp self h) f ⌝ }
+        ensures { λ r. ⌜ r ≡ exchanged self h f ⌝ }
+        ensures { λ r. ⌜ Leads (arraysBefore limits costs doublings) self r (before free) (before held) (after free) (after held)
+            (λ T t. LastHeld T t h × NextFree T (givingUp t (h .tone)) f) (λ t. taking (givingUp t (h .tone)) (f .tone)) ⌝ }
+    {
+        self = self.give_up(h, limits, costs, doublings, free, held);
+        self.take(f, limits, costs, doublings, free, held)
     }
 
     // One step of a rule: the one move that it names, or none.
@@ -131,13 +155,10 @@ impl Running {
                 running: self.give_up(h, limits, costs, doublings, free, held),
                 progress: Progress::Moved,
             },
-            Move::Exchange(h, f) => {
-                let fewer = self.give_up(h, limits, costs, doublings, free, held);
-                Stepped {
-                    running: fewer.take(f, limits, costs, doublings, free, held),
-                    progress: Progress::Moved,
-                }
-            }
+            Move::Exchange(h, f) => Stepped {
+                running: self.exchange(h, f, limits, costs, doublings, free, held),
+                progress: Progress::Moved,
+            },
         }
     }
 }

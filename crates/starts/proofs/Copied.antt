@@ -1,4 +1,5 @@
--- A starting table copied tone by tone with its power: what the turns of `from_start` keep, and what the whole copy stands for.
+-- What no bits stand for. A starting table copied tone by tone with its power: what the turns of `from_start` keep, and what the whole copy
+-- stands for.
 -- Assumes nothing.
 use mathlib.Core.Path.{_≡_, refl, sym, _∙_}
 use mathlib.Core.List.{List}
@@ -13,8 +14,9 @@ use Rattle.lists.proofs.Stores.{Filled, filled-none, filled-more}
 use Rattle.steps.specs.Tones.{Table, _!_, sum}
 use Rattle.steps.proofs.Sums.{sum-at-most, sum-eq}
 use Rattle.line.specs.Arrays.{arrays, powerIn, PowersInRange}
+use Rattle.line.proofs.Arrays.{no-bits-stand, no-bits-no-power}
 use Rattle.running.specs.declared.Running.{Running}
-use Rattle.starts.specs.Starts.{noBitsYet, StartsAt}
+use Rattle.starts.specs.Starts.{noBitsYet, StartsAtNone, StartsAt}
 
 module _ (costs doublings : List ℕ) (t : Table) where
   -- the power of tone j at its bits in a table
@@ -26,6 +28,10 @@ module _ (costs doublings : List ℕ) (t : Table) where
     pub inside : i ≤ length t
     pub bits : Filled mostTones (_!_ t) (r .bits) i
     pub power : r .power ≡ sum i startPower
+
+-- no bits stand for the table of no bits
+pub none-starts : StartsAtNone noBitsYet
+none-starts count A T D R = record { table = no-bits-stand D R; same-power = sym (no-bits-no-power D) }
 
 module _ {costs doublings : List ℕ} {t : Table} where
   -- no tone is copied yet
@@ -55,10 +61,7 @@ module _ {costs doublings : List ℕ} {t : Table} where
     -- all tones are copied
     pub copied-stands : i ≡ length t → (limits : List ℕ) → StartsAt (arrays limits costs doublings) t r
     copied-stands e limits T D R K = record {
-      describes = D;
-      rising = R;
-      within = K;
-      same-bits = λ j jl. sym (C .bits .front j (omega arith));
+      table = record { describes = D; rising = R; within = K; same-bits = λ j jl. sym (C .bits .front j (omega arith)) };
       same-power = rw (e ∙ K .sized) at (C .power)
           ∙ sum-eq (T .count) _ _ (λ j jl. sym (D .same-power j (t ! j) (omega (arith, K .sized)) (K .under j jl)));
     }

@@ -9,9 +9,10 @@ use Prim.Native.Nat.{ℕ, zero, suc, _<_}
 use native.Mathlib.Decide.{decLt}
 use lib.ListN.{length, getD, replicate}
 use Rattle.sizes.specs.Sizes.{mostTones}
-use Rattle.steps.specs.Tones.{Tones, Rising, Table, _!_, KeepsLimits}
-use Rattle.line.specs.Arrays.{Arrays, Describes, StandsFor}
+use Rattle.steps.specs.Tones.{Tones, Rising, Table, _!_, noBits, KeepsLimits}
+use Rattle.line.specs.Arrays.{Arrays, Describes}
 use Rattle.running.specs.declared.Running.{Running}
+use Rattle.running.specs.Running.{Stands}
 use Rattle.starts.specs.declared.Above.{Above}
 use Rattle.starts.specs.declared.Above.the-variants.{Nowhere, Tone}
 
@@ -35,11 +36,13 @@ abbrev pub aboveAt : Above → Option ℕ
 aboveAt Nowhere = none
 aboveAt (Tone i) = some i
 
--- the running table of no bits
+-- The running table of no bits; it stands for the table of no bits, whatever rising tones some arrays describe.
 abbrev pub noBitsYet : Running
 noBitsYet = record { bits = replicate mostTones 0; power = 0 }
 
+abbrev pub StartsAtNone : Running → Type 0
+StartsAtNone r = (count : ℕ) (A : Arrays) (T : Tones) → Describes count A T → Rising T → Stands count A r T (noBits T)
+
 -- The running table that a starting table is copied into stands for it, whatever rising tones the arrays describe.
 abbrev pub StartsAt : Arrays → (start : List ℕ) → Running → Type 0
-StartsAt A start r =
-    (T : Tones) → Describes (length start) A T → Rising T → KeepsLimits T start → StandsFor (length start) A (r .bits) (r .power) T start
+StartsAt A start r = (T : Tones) → Describes (length start) A T → Rising T → KeepsLimits T start → Stands (length start) A r T start

@@ -7,7 +7,7 @@ ghost use Rattle.sizes.specs.Sizes.{mostTones};
 ghost use Rattle.lists.specs.Lent.{before};
 ghost use Rattle.steps.specs.Tones.{Tones};
 ghost use Rattle.line.specs.Arrays.{arrays, PowersInRange};
-ghost use Rattle.starts.specs.Starts.{aboveAt, firstAbove, SameLimits, noBitsYet, StartsAt};
+ghost use Rattle.starts.specs.Starts.{aboveAt, firstAbove, SameLimits, noBitsYet, StartsAtNone, StartsAt};
 use running::Running;
 use sizes::TONES;
 
@@ -35,6 +35,7 @@ pub fn first_above(start: &[u8], limits: &[u8; TONES]) -> Above
 // The running table of no bits.
 pub fn no_bits() -> Running
     ensures { λ r. ⌜ r ≡ noBitsYet ⌝ }
+    ensures { λ r. ⌜ StartsAtNone r ⌝ }
 {
     Running {
         bits: [0; TONES],

@@ -37,8 +37,8 @@ abbrev pub plain : (costs doublings : List ℕ) → Tones
 plain costs doublings = record { count = 0; limit = λ i. 0; power = λ i b. powerIn (getD costs i 0) (getD doublings i 0) b }
 
 -- they give the bytes of whatever table the arrays and the bits stand for
-pub plain-table-bytes : {count : ℕ} {limits costs doublings bits : List ℕ} {power : ℕ} {T : Tones} {t : Table}
-    → StandsFor count (arrays limits costs doublings) bits power T t → entriesBelow (plain costs doublings) bits (T .count) ≡ tableBytes T t
+pub plain-table-bytes : {count : ℕ} {limits costs doublings bits : List ℕ} {T : Tones} {t : Table}
+    → StandsFor count (arrays limits costs doublings) bits T t → entriesBelow (plain costs doublings) bits (T .count) ≡ tableBytes T t
 plain-table-bytes {count} {costs = costs} {doublings} {bits} {T = T} {t} S =
     same-entries (plain costs doublings) T bits t (T .count) (λ i l.
     let il : i < count = omega (arith, S .describes .same-count) in

@@ -23,4 +23,4 @@ tableBytes T t = entriesBelow T t (T .count)
 
 -- The buffer afterwards: the bytes of whatever table of rising tones the arrays and the bits stand for, from its start on.
 abbrev pub WritesTable : (count : ℕ) → Arrays → (bits old new : List ℕ) → Type 0
-WritesTable count A bits old new = (power : ℕ) (T : Tones) (t : Table) → StandsFor count A bits power T t → new ≡ sets old 0 (tableBytes T t)
+WritesTable count A bits old new = (T : Tones) (t : Table) → StandsFor count A bits T t → new ≡ sets old 0 (tableBytes T t)

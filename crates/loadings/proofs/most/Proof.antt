@@ -14,13 +14,13 @@ returns c = λ T L. load-refused (mostOn T _) _ (most-short L _ (c .if1 .taken))
 run-requires : tie.Need-run-requires
 run-requires c κs =
     let L = c .before .before .before .pre .loadable in
-    runnable L (none-stands L (c .no-bits .ensures))
+    runnable L (none-stands L (c .no-bits .ensures .1))
 
 put-table-requires : tie.Need-put-table-requires
 put-table-requires c κs =
     let e = c .before .before .before .before in
     let L = e .before .before .before .before .pre .loadable in
-    (L .in-range .count-high, (writable L (e .run .ensures _ _ (none-stands L (e .before .no-bits .ensures)) .stands), e .before .before .if1 .left))
+    (L .in-range .count-high, (writable L (e .run .ensures _ _ (none-stands L (e .before .no-bits .ensures .1)) .stands), e .before .before .if1 .left))
 
 returns-2 : tie.Need-returns-2
 returns-2 c = λ T L.
@@ -30,7 +30,7 @@ returns-2 c = λ T L.
     let A : Arrays = arrays (k .args .limits .now) (k .args .costs .now) (k .args .doublings .now) in
     load-done {A = A}
     (record {
-      stands = most-stands L (k .args .budget) (e .run .ensures T (noBits T) (none-stands L (e .before .no-bits .ensures)) .stands);
+      stands = most-stands L (k .args .budget) (e .run .ensures T (noBits T) (none-stands L (e .before .no-bits .ensures .1)) .stands);
       added-up = c .total-bits .ensures;
       room = h;
       written = c .before .before .before .before .put-table .ensures (k .args .limits .now);

@@ -16,19 +16,19 @@ returns c = λ T L. load-refused (targetOn T _ _) _ (target-short L _ _ (c .if1 
 run-requires : tie.Need-run-requires
 run-requires c κs =
     let L = c .before .before .before .pre .loadable in
-    runnable L (none-stands L (c .no-bits .ensures))
+    runnable L (none-stands L (c .no-bits .ensures .1))
 
 put-table-requires : tie.Need-put-table-requires
 put-table-requires c κs =
     let e = c .before .before .before .before .before .before in
     let L = e .before .before .before .before .pre .loadable in
-    (L .in-range .count-high, (writable L (e .run .ensures _ _ (none-stands L (e .before .no-bits .ensures)) .stands), e .before .before .if1 .left))
+    (L .in-range .count-high, (writable L (e .run .ensures _ _ (none-stands L (e .before .no-bits .ensures .1)) .stands), e .before .before .if1 .left))
 
 returns-2 : tie.Need-returns-2
 returns-2 c = λ T L.
     let e = c .before .before in
     let k = e .before .before .before .before in
-    let E = e .run .ensures T (noBits T) (none-stands L (e .before .no-bits .ensures)) in
+    let E = e .run .ensures T (noBits T) (none-stands L (e .before .no-bits .ensures .1)) in
     load-refused (targetOn T (k .args .budget) (k .args .target)) _
     (target-missed L _ _ (e .before .before .if1 .left) refl (missed-by L (k .args .budget) (k .args .target) (E .progressed) (c .enum-told .given .1)))
 
@@ -38,12 +38,12 @@ returns-3 c = λ T L.
     let k = e .before .before .before .before in
     let h = e .before .before .if1 .left in
     let A : Arrays = arrays (k .args .limits .now) (k .args .costs .now) (k .args .doublings .now) in
-    let E = e .run .ensures T (noBits T) (none-stands L (e .before .no-bits .ensures)) in
+    let E = e .run .ensures T (noBits T) (none-stands L (e .before .no-bits .ensures .1)) in
     let all = carried-by L (k .args .budget) (k .args .target) (E .progressed) (c .before .before .before .before .before .before .before .enum-told2 .given .1) in
     load-done {A = A}
     (record {
       stands = E .stands;
-      added-up = sym (stands-bits {A = A} (E .stands) ∙ all);
+      added-up = sym (stands-bits {A = A} (E .stands .table) ∙ all);
       room = h;
       written = c .before .before .put-table .ensures (k .args .limits .now);
     })

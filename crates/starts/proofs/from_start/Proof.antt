@@ -14,7 +14,7 @@ abbrev μ-loop : tie.MeasureT-loop
 μ-loop start costs doublings running₀ i₀ running i = length start - i
 
 loop-holds : tie.Need-loop-holds Inv-loop μ-loop
-loop-holds c = rw (c .no-bits .ensures) none-copied
+loop-holds c = rw (c .no-bits .ensures .0) none-copied
 
 shared-slice-read-running : tie.Need-shared-slice-read-running Inv-loop μ-loop
 shared-slice-read-running c = omega arith

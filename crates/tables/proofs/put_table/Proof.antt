@@ -66,7 +66,7 @@ same-length : tie.Need-same-length Inv-loop μ-loop
 same-length c = c .before .loop .inv .1 .same-length
 
 returns : tie.Need-returns Inv-loop μ-loop
-returns c = λ limits power T t S.
+returns c = λ limits T t S.
     let a = c .before in
     let e : a .loop .i ≡ T .count = omega (arith, S .describes .same-count) in
     rw (e, plain-table-bytes S) at (a .loop .inv .1 .stores)

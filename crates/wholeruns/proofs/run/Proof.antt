@@ -25,7 +25,7 @@ fill-ranks-requires c κs =
     let s = c .before .before .before .before in
     let R = s .pre in
     let none : NoneFrom (s .args .count) (replicate mostTones noStep) = record { none-from = λ i h l. getD-replicate mostTones i noStep 0 l } in
-    (R .in-range, (stands-under (R .stands), (none, none)))
+    (R .in-range, (stands-under (R .stands .table), (none, none)))
 
 loop-holds : tie.Need-loop-holds Inv-loop μ-loop
 loop-holds c = along-starts (c .before .before .before .before .before .pre) (c .fill-ranks .ensures)

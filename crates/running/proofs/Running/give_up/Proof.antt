@@ -4,7 +4,7 @@ use native.Mathlib.Omega.{arith}
 use borrow.Author.Needs.{needs}
 use lib.ListN.{length}
 use Rattle.sizes.specs.Sizes.{mostTones}
-use Rattle.running.proofs.Changes.{followed}
+use Rattle.running.proofs.Changes.{gave-up}
 use Rattle.running.proofs.Running.give_up.Statement.{statement}
 use Rattle.running.proofs.Running.give_up.Tie as tie
 
@@ -24,7 +24,7 @@ returns c =
     let P = s .pre in
     let n : length (s .args .self .bits) ≡ mostTones = search needs in
     let stored = c .put-ranks .ensures in
-    (refl, followed (omega (arith, P .tone, P .in-range .count-high)) n (stored .1 .1) _ _ (stored .0) (stored .1 .0))
+    (refl, gave-up (record { low = omega (arith, P .tone, P .in-range .count-high); long = n; ranks-long = stored .1 .1; free-rank = stored .0; held-rank = stored .1 .0 }))
 
 pub give-up-spec : {M : Type 1} → statement M
 give-up-spec =

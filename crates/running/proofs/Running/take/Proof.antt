@@ -5,7 +5,8 @@ use native.Mathlib.Omega.{arith}
 use borrow.Author.Needs.{needs}
 use lib.ListN.{length}
 use Rattle.sizes.specs.Sizes.{mostTones}
-use Rattle.running.proofs.Changes.{limit-small, followed}
+use Rattle.line.proofs.Arrays.{limit-small}
+use Rattle.running.proofs.Changes.{took}
 use Rattle.running.proofs.Running.take.Statement.{statement}
 use Rattle.running.proofs.Running.take.Tie as tie
 
@@ -28,7 +29,7 @@ returns c =
     let P = s .pre in
     let n : length (s .args .self .bits) ≡ mostTones = search needs in
     let stored = c .put-ranks .ensures in
-    (rw add-one refl, followed (omega (arith, P .tone, P .in-range .count-high)) n (stored .1 .1) _ _ (stored .0) (stored .1 .0))
+    rw add-one (refl, took (record { low = omega (arith, P .tone, P .in-range .count-high); long = n; ranks-long = stored .1 .1; free-rank = rw add-one at (stored .0); held-rank = rw add-one at (stored .1 .0) }))
 
 pub take-spec : {M : Type 1} → statement M
 take-spec =
