@@ -8,11 +8,11 @@ use native.Mathlib.Decide.{decLt}
 use native.Mathlib.Nat.{mul-le-mul-left, mul-le-mul-right, le-trans}
 use native.Mathlib.Omega.{arith}
 use lib.ListN.{getD, replicate, length-replicate}
-use Rattle.sizes.specs.Sizes.{mostTones, pairCap}
+use Rattle.sizes.specs.Sizes.{mostTones, pairCap, mostBitsOfAll}
 use Rattle.lists.proofs.Stores.{all-same}
 use Rattle.silence.specs.Map.{silenced}
-use Rattle.steps.specs.Tones.{Tones, step, Rising, Table, _!_, noBits, sum, totalBits, totalPower}
-use Rattle.steps.proofs.Sums.{sum-zero, sum-eq}
+use Rattle.steps.specs.Tones.{Tones, step, Rising, Table, _!_, noBits, totalBits, totalPower}
+use Rattle.steps.proofs.Sums.{sum-at-most, sum-zero}
 use Rattle.gaps.specs.Gap.{PartsInRange}
 use Rattle.gaps.proofs.Rule.{parts-in-range}
 use Rattle.line.specs.declared.Steps.{Steps}
@@ -102,17 +102,6 @@ module _ {count : ℕ} {A : Arrays} {T : Tones} (D : Describes count A T) where
 
 -- ---- tables beside arrays
 
-module _ {count : ℕ} {A : Arrays} {bits : List ℕ} {T : Tones} {t : Table} (S : StandsFor count A bits T t) where
-  pub stands-under : Under count A bits
-  stands-under = record { under = λ i il. omega (arith, S .same-bits i il, S .within .under i (omega (arith, S .describes .same-count)), S .describes .same-limit i il) }
-
-  -- the bits add up to the table's total
-  pub stands-bits : sum count (λ i. getD bits i 0) ≡ totalBits T t
-  stands-bits = sum-same (S .describes .same-count)
-    where
-      sum-same : T .count ≡ count → sum count (λ i. getD bits i 0) ≡ totalBits T t
-      sum-same e = rw (sym e) (sum-eq (T .count) _ _ (λ i il. sym (S .same-bits i (omega arith))))
-
 -- a tone that takes bits has a doubling, so its limit is at most 15
 pub limit-small : {count : ℕ} {A : Arrays} → ArraysInRange count A → (i : ℕ) → i < count → limitAt A i ≤ pairCap
 limit-small {A = A} R i il = by (decLt 0 (limitAt A i))
@@ -120,6 +109,17 @@ limit-small {A = A} R i il = by (decLt 0 (limitAt A i))
     by : Dec (0 < limitAt A i) → limitAt A i ≤ pairCap
     by (no m) = omega arith
     by (yes q) = omega (arith, R .shift-high i il, mul-le-mul-right (limitAt A i) (R .cost-low i il q .1))
+
+module _ {count : ℕ} {A : Arrays} {bits : List ℕ} {T : Tones} {t : Table} (S : StandsFor count A bits T t) where
+  pub stands-under : Under count A bits
+  stands-under = record { under = λ i il. omega (arith, S .same-bits i il, S .within .under i (omega (arith, S .describes .same-count)), S .describes .same-limit i il) }
+
+  -- no table beside the arrays carries more bits
+  pub bits-high : ArraysInRange count A → totalBits T t ≤ mostBitsOfAll
+  bits-high R = omega (arith, S .describes .same-count, R .count-high, sum-at-most (T .count) pairCap (_!_ t) (λ i il. high i (omega (arith, S .describes .same-count))))
+    where
+      high : (i : ℕ) → i < count → t ! i ≤ pairCap
+      high i il = omega (arith, S .same-bits i il, stands-under .under i il, limit-small R i il)
 
 -- bits under the limits keep the shifts in range
 pub shift-under : {count : ℕ} {A : Arrays} {bits : List ℕ} → ArraysInRange count A → Under count A bits → (i : ℕ) → i < count → doublingsAt A i * getD bits i 0 ≤ 15

@@ -9,12 +9,11 @@ use Prim.Native.Nat.{ℕ, _*_, _≤_, _<_}
 use native.Mathlib.Decide.{ℕ-discrete}
 use native.Mathlib.Omega.{arith}
 use borrow.Author.Tests.{lt-ltb, le-ltb, eq-eqb, ne-eqb}
-use lib.ListN.{length, drop, getD}
+use lib.ListN.{length, drop}
 use Rattle.sizes.specs.Sizes.{bytesATone}
-use Rattle.steps.specs.Tones.{Tones, Table, sum, noBits, totalBits}
+use Rattle.steps.specs.Tones.{Tones, Table, noBits, totalBits}
 use Rattle.steps.specs.Runs.{Ran, addStep, refitStep, run, mostBits, carrying}
 use Rattle.line.specs.Arrays.{Arrays}
-use Rattle.line.proofs.Arrays.{stands-bits}
 use Rattle.refusals.specs.declared.Refusal.{Refusal}
 use Rattle.refusals.specs.declared.Refusal.the-variants.{DestinationTooSmall, StartLengthWrong, StartAboveLimit, TargetNotCarried}
 use Rattle.running.specs.declared.Running.{Running}
@@ -53,28 +52,24 @@ module _ (on : (room : ℕ) → Loading) (old : List ℕ) where
   pub refit-refused : {r : Refusal} → on (length old) ≡ turned-down r → RefitsAs (re-fit.Refused r) old old on
   refit-refused e = refits-as (simp e) (simp e)
 
--- the running table of a run, its total bits added up, and the buffer that it was written to
-pub record Wrote (count : ℕ) (A : Arrays) (T : Tones) (r : Running) (t : Table) (bits : ℕ) (old new : List ℕ) : Type 0 where
+-- the running table of a run, and the buffer that it was written to
+pub record Wrote (count : ℕ) (A : Arrays) (T : Tones) (r : Running) (t : Table) (old new : List ℕ) : Type 0 where
   pub stands : Stands count A r T t
-  pub added-up : bits ≡ sum count (λ i. getD (r .bits) i 0)
   pub room : bytesATone * count ≤ length old
   pub written : WritesTable count A (r .bits) old new
 
-module _ {count : ℕ} {A : Arrays} {T : Tones} {ran : Ran} {r : Running} {bits : ℕ} {old new : List ℕ} (W : Wrote count A T r (ran .table) bits old new)
+module _ {count : ℕ} {A : Arrays} {T : Tones} {ran : Ran} {r : Running} {old new : List ℕ} (W : Wrote count A T r (ran .table) old new)
     (on : (room : ℕ) → Loading) (e : on (length old) ≡ loaded T ran) where
-  total : bits ≡ totalBits T (ran .table)
-  total = W .added-up ∙ stands-bits (W .stands .table)
-
   buffer : new ≡ tableBytes T (ran .table) ++ drop (bytesATone * T .count) old
   buffer =
       W .written T (ran .table) (W .stands .table)
       ∙ table-written T (ran .table) old (omega (arith, W .room, W .stands .table .describes .same-count))
 
-  pub load-done : LoadsAs (load.Totals bits (r .power)) old new on
-  load-done = loads-as on old (simp (e, total, W .stands .same-power)) (simp e buffer)
+  pub load-done : LoadsAs (load.Totals (r .totals .bits) (r .totals .power)) old new on
+  load-done = loads-as on old (simp (e, W .stands .sums .same-bits, W .stands .sums .same-power)) (simp e buffer)
 
-  pub refit-done : {moves : ℕ} → moves ≡ ran .moves → RefitsAs (re-fit.Totals bits (r .power) moves) old new on
-  refit-done m = refits-as on old (simp (e, total, W .stands .same-power, m)) (simp e buffer)
+  pub refit-done : {moves : ℕ} → moves ≡ ran .moves → RefitsAs (re-fit.Totals (r .totals .bits) (r .totals .power) moves) old new on
+  refit-done m = refits-as on old (simp (e, W .stands .sums .same-bits, W .stands .sums .same-power, m)) (simp e buffer)
 
 -- ---- which outcome it is, for so many tones in a buffer of so many bytes
 

@@ -54,7 +54,8 @@ pub fn most(
     let running = ended.running;
     let bits = running.bits;
     tables::put_table(table, count, costs, doublings, &bits);
-    Loaded::Totals(tables::total_bits(size, &bits), running.power)
+    let totals = running.totals;
+    Loaded::Totals(totals.bits, totals.power)
 }
 
 // Loads a set number of bits.
@@ -92,7 +93,8 @@ pub fn target(
             let running = ended.running;
             let bits = running.bits;
             tables::put_table(table, count, costs, doublings, &bits);
-            Loaded::Totals(target, running.power)
+            let totals = running.totals;
+            Loaded::Totals(totals.bits, totals.power)
         }
     }
 }
@@ -136,7 +138,8 @@ pub fn refit(
             let running = ended.running;
             let bits = running.bits;
             tables::put_table(table, count, costs, doublings, &bits);
-            Refitted::Totals(tables::total_bits(size, &bits), running.power, ended.moves)
+            let totals = running.totals;
+            Refitted::Totals(totals.bits, totals.power, ended.moves)
         }
     }
 }

@@ -13,10 +13,10 @@ use Rattle.sizes.specs.Sizes.{mostTones}
 use Rattle.steps.specs.Tones.{Tones, step, Table, _!_, KeepsLimits}
 use Rattle.steps.specs.Runs as rule
 use Rattle.steps.proofs.Search.{Earliest, earliestFree-is, Latest, latestHeld-is}
-use Rattle.steps.proofs.Changes.{taking-within, total-taking, givingUp-within, total-givingUp, same-bits, earliest-givingUp}
+use Rattle.steps.proofs.Changes.{taking-within, total-taking, bits-taking, givingUp-within, total-givingUp, bits-givingUp, same-bits, earliest-givingUp}
 use Rattle.steps.proofs.Order.{before-place}
 use Rattle.line.specs.Arrays.{Arrays, limitAt, costAt, doublingsAt, ArraysInRange, StandsFor}
-use Rattle.line.proofs.Arrays.{stands-under}
+use Rattle.line.proofs.Arrays.{stands-under, bits-high}
 use Rattle.ranks.specs.Ranks.{freeRank, heldRank, rankFree, Ranked}
 use Rattle.ranks.proofs.Kept.{ranked-set}
 use Rattle.moves.specs.declared.Rule.{Rule}
@@ -61,7 +61,10 @@ module _ {count : ℕ} {A : Arrays} {r : Running} {T : Tones} {t : Table} (S : S
       let il = F .free .tone in
       record {
         table = rw (← B .same-bits (f .tone) (inside B il)) (stored B (f .tone) (suc (t ! f .tone)) il l (taking-within T (B .within) (F .free)));
-        same-power = omega (arith, F .sized, S .same-power, total-taking T (B .rising) (B .within) (F .free));
+        sums = record {
+          same-bits = omega (arith, S .sums .same-bits, bits-taking T (B .rising) (B .within) (F .free));
+          same-power = omega (arith, F .sized, S .sums .same-power, total-taking T (B .rising) (B .within) (F .free));
+        };
       }
 
   give-up-stands : {h : Step} → h .tone < length (r .bits) → LastHeld T t h → Stands count A (givenUp r h) T (rule.givingUp t (h .tone))
@@ -71,7 +74,10 @@ module _ {count : ℕ} {A : Arrays} {r : Running} {T : Tones} {t : Table} (S : S
       let top : t ! h .tone ≡ suc (t ! h .tone - 1) = omega (arith, H .held .held) in
       record {
         table = rw (← B .same-bits (h .tone) (inside B il)) (stored B (h .tone) (t ! h .tone - 1) il l (givingUp-within T (B .within) il top));
-        same-power = omega (arith, H .sized, S .same-power, total-givingUp T (B .rising) (B .within) il top);
+        sums = record {
+          same-bits = omega (arith, S .sums .same-bits, bits-givingUp T (B .rising) (B .within) il top);
+          same-power = omega (arith, H .sized, S .sums .same-power, total-givingUp T (B .rising) (B .within) il top);
+        };
       }
 
 module _ {A : Arrays} {r : Running} {free held newFree newHeld : List ℕ} where
@@ -129,12 +135,12 @@ module _ {count : ℕ} {A : Arrays} {r : Running} {T : Tones} {t : Table} (S : S
       )
 
   pub knows : ArraysInRange count A → {by : Rule} {first last : ℕ} → first ≡ rankFree T t (rule.earliestFree T t) → LatestAt by T t last
-      → Knows by T t (r .power) first last
+      → Knows by T t (r .totals .power) first last
   knows I e l = record {
     small = small I (S .table .describes);
     rising = S .table .rising;
     within = S .table .within;
-    same-power = S .same-power;
+    same-power = S .sums .same-power;
     earliest-at = e;
     latest-at = l;
   }
@@ -142,8 +148,8 @@ module _ {count : ℕ} {A : Arrays} {r : Running} {T : Tones} {t : Table} (S : S
 -- ---- what the code may do
 
 module _ {count : ℕ} {A : Arrays} {r : Running} (R : Runnable count A r) where
-  pub power-high : r .power < 2 ^ 62
-  power-high = omega (arith, R .stands .same-power, R .bounded (R .table) (R .stands .table .within))
+  pub power-high : r .totals .power < 2 ^ 62
+  power-high = omega (arith, R .stands .sums .same-power, R .bounded (R .table) (R .stands .table .within))
 
   pub can-take : {f : Step} → NextFree (R .tones) (R .table) f → CanTake A r f
   can-take {f} F =
@@ -154,10 +160,11 @@ module _ {count : ℕ} {A : Arrays} {r : Running} (R : Runnable count A r) where
         in-range = R .in-range;
         tone = l;
         free = omega (arith, F .free .below, S .same-bits (f .tone) l, S .describes .same-limit (f .tone) l);
-        bounded = omega (
+        bits-bounded = omega (arith, R .stands .sums .same-bits, bits-high S (R .in-range));
+        power-bounded = omega (
           arith,
           F .sized,
-          R .stands .same-power,
+          R .stands .sums .same-power,
           R .bounded _ (taking-within (R .tones) (S .within) (F .free)),
           total-taking (R .tones) (S .rising) (S .within) (F .free),
         );
@@ -174,7 +181,8 @@ module _ {count : ℕ} {A : Arrays} {r : Running} (R : Runnable count A r) where
         tone = l;
         held = omega (arith, H .held .held, S .same-bits (h .tone) l);
         under = stands-under S .under (h .tone) l;
-        bounded = omega (arith, H .sized, R .stands .same-power, total-givingUp (R .tones) (S .rising) (S .within) (H .held .tone) top);
+        bits-bounded = omega (arith, R .stands .sums .same-bits, bits-givingUp (R .tones) (S .rising) (S .within) (H .held .tone) top);
+        power-bounded = omega (arith, H .sized, R .stands .sums .same-power, total-givingUp (R .tones) (S .rising) (S .within) (H .held .tone) top);
       }
 
 -- after the later step of an exchange is given up

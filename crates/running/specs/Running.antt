@@ -4,7 +4,7 @@ use mathlib.Core.List.{List}
 use mathlib.Core.Path.{_≡_}
 use Prim.Native.Nat.{ℕ, suc, _+_, _-_, _^_, _≤_, _<_}
 use lib.ListN.{getD, set}
-use Rattle.steps.specs.Tones.{Tones, step, Table, _!_, Held, Free, totalPower, KeepsLimits}
+use Rattle.steps.specs.Tones.{Tones, step, Table, _!_, Held, Free, totalBits, totalPower, KeepsLimits}
 use Rattle.steps.specs.Runs as rule
 use Rattle.line.specs.Arrays.{Arrays, limitAt, ArraysInRange, StandsFor}
 use Rattle.ranks.specs.Ranks.{Ranked}
@@ -13,15 +13,22 @@ use Rattle.moves.specs.declared.Step.{Step}
 use Rattle.moves.specs.Moves.{ruleOf}
 use Rattle.running.specs.declared.Progress.the-variants.{Moved, Finished}
 use Rattle.running.specs.declared.Running.{Running}
+use Rattle.running.specs.declared.Totals.{Totals}
 use Rattle.running.specs.declared.Stepped.{Stepped}
 
 -- ---- what it stands for
 
+-- W2: 'total bits and total power in the running table', 'equal to the sums over the tones' of the table that it stands for. Every operation
+-- that makes or alters a running table has it in its contract, by `Stands`.
+pub record Sums (s : Totals) (T : Tones) (t : Table) : Type 0 where
+  pub same-bits : s .bits ≡ totalBits T t
+  pub same-power : s .power ≡ totalPower T t
+
 module _ (count : ℕ) (A : Arrays) where
-  -- The running table stands for table t of tones T: it has its bits, and carries its total power.
+  -- The running table stands for table t of tones T: it has its bits, and carries its totals.
   pub record Stands (r : Running) (T : Tones) (t : Table) : Type 0 where
     pub table : StandsFor count A (r .bits) T t
-    pub same-power : r .power ≡ totalPower T t
+    pub sums : Sums (r .totals) T t
 
   -- It stands for some table, and every table within the limits has a power below 2^62, so that one step more stays within 64 bits.
   pub record Runnable (r : Running) : Type 0 where
@@ -35,30 +42,38 @@ module _ (count : ℕ) (A : Arrays) where
 
 -- the running table with a free step taken, with a held one given up, and with a held one exchanged for a free one
 abbrev pub taken : Running → (f : Step) → Running
-taken r f = record { bits = set (r .bits) (f .tone) (suc (getD (r .bits) (f .tone) 0)); power = r .power + f .size }
+taken r f = record {
+  bits = set (r .bits) (f .tone) (suc (getD (r .bits) (f .tone) 0));
+  totals = record { bits = r .totals .bits + 1; power = r .totals .power + f .size };
+}
 
 abbrev pub givenUp : Running → (h : Step) → Running
-givenUp r h = record { bits = set (r .bits) (h .tone) (getD (r .bits) (h .tone) 0 - 1); power = r .power - h .size }
+givenUp r h = record {
+  bits = set (r .bits) (h .tone) (getD (r .bits) (h .tone) 0 - 1);
+  totals = record { bits = r .totals .bits - 1; power = r .totals .power - h .size };
+}
 
 abbrev pub exchanged : Running → (h f : Step) → Running
 exchanged r h f = taken (givenUp r h) f
 
--- A step of one of the tones can be taken: it is free, and the total stays within 64 bits.
+-- A step of one of the tones can be taken: it is free, and the totals stay within 32 and 64 bits.
 pub record CanTake (A : Arrays) (r : Running) (f : Step) : Type 0 where
   pub count : ℕ
   pub in-range : ArraysInRange count A
   pub tone : f .tone < count
   pub free : getD (r .bits) (f .tone) 0 < limitAt A (f .tone)
-  pub bounded : r .power + f .size < 2 ^ 64
+  pub bits-bounded : r .totals .bits + 1 < 2 ^ 32
+  pub power-bounded : r .totals .power + f .size < 2 ^ 64
 
--- A step of one of the tones can be given up: it is held, and the total has its size.
+-- A step of one of the tones can be given up: it is held, and the totals have its bit and its size.
 pub record CanGiveUp (A : Arrays) (r : Running) (h : Step) : Type 0 where
   pub count : ℕ
   pub in-range : ArraysInRange count A
   pub tone : h .tone < count
   pub held : 0 < getD (r .bits) (h .tone) 0
   pub under : getD (r .bits) (h .tone) 0 ≤ limitAt A (h .tone)
-  pub bounded : h .size ≤ r .power
+  pub bits-bounded : 0 < r .totals .bits
+  pub power-bounded : h .size ≤ r .totals .power
 
 -- f is the next step of its tone in table t, and free; h is the last one of its tone, and held; each has its size
 pub record NextFree (T : Tones) (t : Table) (f : Step) : Type 0 where

@@ -11,10 +11,16 @@ use moves::Rule;
 use moves::Step;
 use sizes::TONES;
 
-// The running table: the bits of each tone, and the total power.
+// The sums over the tones of a table's bits and of its powers.
+pub struct Totals {
+    pub bits: u32,
+    pub power: u64,
+}
+
+// The running table: the bits of each tone, and its totals.
 pub struct Running {
     pub bits: [u8; TONES],
-    pub power: u64,
+    pub totals: Totals,
 }
 
 // What a step answers.
@@ -29,10 +35,10 @@ pub struct Stepped {
     pub progress: Progress,
 }
 
-// The moves change a copy of the bits and put it back whole: so the compiler keeps the power out of memory, and a step copies the bits
+// The moves change a copy of the bits and put it back whole: so the compiler keeps the totals apart from the bits, and a step copies the bits
 // twice, in and out, whatever its move.
 impl Running {
-    // Takes a free step: one bit more on its tone, and its size more in all. The tone's kept ranks follow.
+    // Takes a free step: one bit more on its tone and in all, and its size more power. The tone's kept ranks follow.
     fn take(
         mut self,
         f: Step,
@@ -52,7 +58,10 @@ impl Running {
         let more = bits[tone] + 1;
         bits[tone] = more;
         self.bits = bits;
-        self.power += f.size;
+        let mut totals = self.totals;
+        totals.bits += 1;
+        totals.power += f.size;
+        self.totals = totals;
         ranks::put_ranks(
             tone,
             limits[tone],
@@ -65,7 +74,7 @@ impl Running {
         self
     }
 
-    // Gives up a held step: one bit fewer on its tone, and its size less in all. The tone's kept ranks follow.
+    // Gives up a held step: one bit fewer on its tone and in all, and its size less power. The tone's kept ranks follow.
     fn give_up(
         mut self,
         h: Step,
@@ -85,7 +94,10 @@ impl Running {
         let fewer = bits[tone] - 1;
         bits[tone] = fewer;
         self.bits = bits;
-        self.power -= h.size;
+        let mut totals = self.totals;
+        totals.bits -= 1;
+        totals.power -= h.size;
+        self.totals = totals;
         ranks::put_ranks(
             tone,
             limits[tone],
@@ -98,7 +110,7 @@ impl Running {
         self
     }
 
-    // Exchanges a held step for a free one of another tone.
+    // Exchanges a held step for a free one of another tone: as many bits in all.
     fn exchange(
         mut self,
         h: Step,
@@ -141,7 +153,7 @@ impl Running {
             Rule::Add => 0,
             Rule::Refit => u64::MAX - search::least(count, held),
         };
-        let next = moves::next_move(rule, earliest, latest, self.power, budget);
+        let next = moves::next_move(rule, earliest, latest, self.totals.power, budget);
         match next {
             Move::Nothing => Stepped {
                 running: self,

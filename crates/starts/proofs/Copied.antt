@@ -1,4 +1,4 @@
--- What no bits stand for. A starting table copied tone by tone with its power: what the turns of `from_start` keep, and what the whole copy
+-- What no bits stand for. A starting table copied tone by tone with its totals: what the turns of `from_start` keep, and what the whole copy
 -- stands for.
 -- Assumes nothing.
 use mathlib.Core.Path.{_≡_, refl, sym, _∙_}
@@ -10,12 +10,12 @@ use native.Mathlib.Omega.{arith}
 use lib.ListN.{length, getD, set}
 use lib.Pow.{pow-mono, shl-lt}
 use Rattle.sizes.specs.Sizes.{mostTones, mostPower}
-use Rattle.lists.proofs.Stores.{Filled, filled-none, filled-more}
-use Rattle.steps.specs.Tones.{Table, _!_, sum}
-use Rattle.steps.proofs.Sums.{sum-at-most, sum-eq}
+use Rattle.lists.proofs.Stores.{all-same, Filled, filled-none, filled-more}
+use Rattle.steps.specs.Tones.{Table, _!_, noBits, sum}
+use Rattle.steps.proofs.Sums.{sum-at-most, sum-eq, sum-zero}
 use Rattle.line.specs.Arrays.{arrays, powerIn, PowersInRange}
 use Rattle.line.proofs.Arrays.{no-bits-stand, no-bits-no-power}
-use Rattle.running.specs.declared.Running.{Running}
+use Rattle.running.specs.declared.Totals.{Totals}
 use Rattle.starts.specs.Starts.{noBitsYet, StartsAtNone, StartsAt}
 
 module _ (costs doublings : List ℕ) (t : Table) where
@@ -23,21 +23,26 @@ module _ (costs doublings : List ℕ) (t : Table) where
   abbrev pub startPower : (j : ℕ) → ℕ
   startPower j = powerIn (getD costs j 0) (getD doublings j 0) (t ! j)
 
-  -- the first i tones are copied
-  pub record Copied (r : Running) (i : ℕ) : Type 0 where
+  -- the first i tones are copied, with these totals
+  pub record Copied (bits : List ℕ) (s : Totals) (i : ℕ) : Type 0 where
     pub inside : i ≤ length t
-    pub bits : Filled mostTones (_!_ t) (r .bits) i
-    pub power : r .power ≡ sum i startPower
+    pub copied : Filled mostTones (_!_ t) bits i
+    pub sum-bits : s .bits ≡ sum i (_!_ t)
+    pub sum-power : s .power ≡ sum i startPower
+    pub small : s .bits ≤ 255 * i
 
 -- no bits stand for the table of no bits
 pub none-starts : StartsAtNone noBitsYet
-none-starts count A T D R = record { table = no-bits-stand D R; same-power = sym (no-bits-no-power D) }
+none-starts count A T D R = record {
+  table = no-bits-stand D R;
+  sums = record { same-bits = sym (sum-zero (T .count) (_!_ (noBits T)) (λ i il. all-same (T .count) i 0)); same-power = sym (no-bits-no-power D) };
+}
 
 module _ {costs doublings : List ℕ} {t : Table} where
   -- no tone is copied yet
-  pub none-copied : Copied costs doublings t noBitsYet 0
+  pub none-copied : Copied costs doublings t (noBitsYet .bits) (noBitsYet .totals) 0
   unfolding sum
-  none-copied = record { inside = omega arith; bits = filled-none mostTones (_!_ t); power = refl }
+  none-copied = record { inside = omega arith; copied = filled-none mostTones (_!_ t); sum-bits = refl; sum-power = refl; small = omega arith }
 
   -- with one tone more the sum stays below 2^64
   pub power-room : PowersInRange (length t) costs doublings t → (i : ℕ) → i < length t → length t ≤ mostTones
@@ -51,17 +56,26 @@ module _ {costs doublings : List ℕ} {t : Table} where
           let under = lt-of-lt-of-le (shl-lt 24 s (R .cost-high j jl)) (pow-mono {i = 24 + s} {j = 39} (omega (arith, R .shift-high j jl))) in
           omega (arith, under)
 
-  module _ {r : Running} {i : ℕ} (C : Copied costs doublings t r i) where
+  module _ {bits : List ℕ} {s : Totals} {i : ℕ} (C : Copied costs doublings t bits s i) where
     -- one tone more is copied
-    pub copied-more : (p : ℕ) → i < length t → i < mostTones → p ≡ startPower costs doublings t i
-        → Copied costs doublings t (record { bits = set (r .bits) i (t ! i); power = r .power + p }) (i + 1)
+    pub copied-more : (b p : ℕ) → i < length t → i < mostTones → b ≡ t ! i → b ≤ 255 → p ≡ startPower costs doublings t i
+        → Copied costs doublings t (set bits i b) (record { bits = s .bits + b; power = s .power + p }) (i + 1)
     unfolding sum
-    copied-more p il small e = record { inside = omega arith; bits = filled-more (C .bits) (t ! i) small refl; power = rw add-one (omega (arith, C .power)) }
+    copied-more b p il low e small q = record {
+      inside = omega arith;
+      copied = filled-more (C .copied) b low e;
+      sum-bits = rw add-one (omega (arith, C .sum-bits));
+      sum-power = rw add-one (omega (arith, C .sum-power));
+      small = omega (arith, C .small);
+    }
 
     -- all tones are copied
-    pub copied-stands : i ≡ length t → (limits : List ℕ) → StartsAt (arrays limits costs doublings) t r
+    pub copied-stands : i ≡ length t → (limits : List ℕ) → StartsAt (arrays limits costs doublings) t (record { bits = bits; totals = s })
     copied-stands e limits T D R K = record {
-      table = record { describes = D; rising = R; within = K; same-bits = λ j jl. sym (C .bits .front j (omega arith)) };
-      same-power = rw (e ∙ K .sized) at (C .power)
-          ∙ sum-eq (T .count) _ _ (λ j jl. sym (D .same-power j (t ! j) (omega (arith, K .sized)) (K .under j jl)));
+      table = record { describes = D; rising = R; within = K; same-bits = λ j jl. sym (C .copied .front j (omega arith)) };
+      sums = record {
+        same-bits = rw (e ∙ K .sized) at (C .sum-bits);
+        same-power = rw (e ∙ K .sized) at (C .sum-power)
+            ∙ sum-eq (T .count) _ _ (λ j jl. sym (D .same-power j (t ! j) (omega (arith, K .sized)) (K .under j jl)));
+      };
     }

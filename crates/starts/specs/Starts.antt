@@ -38,7 +38,7 @@ aboveAt (Tone i) = some i
 
 -- The running table of no bits; it stands for the table of no bits, whatever rising tones some arrays describe.
 abbrev pub noBitsYet : Running
-noBitsYet = record { bits = replicate mostTones 0; power = 0 }
+noBitsYet = record { bits = replicate mostTones 0; totals = record { bits = 0; power = 0 } }
 
 abbrev pub StartsAtNone : Running → Type 0
 StartsAtNone r = (count : ℕ) (A : Arrays) (T : Tones) → Describes count A T → Rising T → Stands count A r T (noBits T)

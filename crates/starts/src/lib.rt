@@ -9,6 +9,7 @@ ghost use Rattle.steps.specs.Tones.{Tones};
 ghost use Rattle.line.specs.Arrays.{arrays, PowersInRange};
 ghost use Rattle.starts.specs.Starts.{aboveAt, firstAbove, SameLimits, noBitsYet, StartsAtNone, StartsAt};
 use running::Running;
+use running::Totals;
 use sizes::TONES;
 
 // The first tone with more bits than its limit, if any.
@@ -39,22 +40,28 @@ pub fn no_bits() -> Running
 {
     Running {
         bits: [0; TONES],
-        power: 0,
+        totals: Totals { bits: 0, power: 0 },
     }
 }
 
-// The running table of a starting table, with its total power, by the costs and doublings of its tones.
+// The running table of a starting table, with its totals, by the costs and doublings of its tones: they are worked out in the pass that
+// copies the bits, in a local value, so that the compiler keeps them out of memory.
 pub fn from_start(start: &[u8], costs: &[u32; TONES], doublings: &[u8; TONES]) -> Running
     requires { ⌜ length (now start) ≤ mostTones ⌝ }
     requires { ⌜ PowersInRange (length (now start)) (now costs) (now doublings) (now start) ⌝ }
     ensures { λ r. ⌜ ((limits : List ℕ) → StartsAt (arrays limits (before costs) (before doublings)) (before start) r) ⌝ }
 {
     let mut running = no_bits();
+    let mut totals = running.totals;
     let mut i: usize = 0;
     while i < start.len() {
-        running.bits[i] = start[i];
-        running.power += line::power_at(costs[i], doublings[i], start[i]);
+        // A reference to the byte, since that brings its range.
+        let tone = &start[i];
+        running.bits[i] = *tone;
+        totals.power += line::power_at(costs[i], doublings[i], *tone);
+        totals.bits += *tone as u32;
         i += 1;
     }
+    running.totals = totals;
     running
 }

@@ -100,6 +100,9 @@ module _ (T : Tones) (R : Rising T) where
   pub bits-taking : {t : Table} {f : ℕ} → KeepsLimits T t → Free T t f (t ! f) → totalBits T (taking t f) ≡ suc (totalBits T t)
   bits-taking {t} {f} w F = omega (arith, sum-set T (λ i b. b) f (suc (t ! f)) w (F .tone))
 
+  pub bits-givingUp : {t : Table} {h b : ℕ} → KeepsLimits T t → h < T .count → t ! h ≡ suc b → suc (totalBits T (givingUp t h)) ≡ totalBits T t
+  bits-givingUp {t} {h} w hl top = omega (arith, sum-set T (λ i b. b) h (t ! h - 1) w hl)
+
   -- the steps free after the earliest free one is taken come after it; those held after the latest is given up come before it
   pub free-after : {t : Table} {f j c : ℕ} → KeepsLimits T t → Earliest T t f → Free T (taking t f) j c → place T f (t ! f) < place T j c
   free-after {t} {f} {j} {c} w E x =

@@ -2,32 +2,15 @@
 ghost use mathlib.Core.List.{List, _∷_};
 ghost use mathlib.Core.Path.{_≡_};
 ghost use Prim.Native.Nat.{ℕ, _+_, _*_, _≤_};
-ghost use lib.ListN.{length, getD};
+ghost use lib.ListN.{length};
 ghost use lib.Seq.{sets};
 ghost use Rattle.sizes.specs.Sizes.{mostTones, bytesATone};
 ghost use Rattle.lists.specs.Lent.{before, after};
 ghost use Rattle.bigendian.specs.Number.{bytes};
-ghost use Rattle.steps.specs.Tones.{sum};
 ghost use Rattle.line.specs.Arrays.{arrays, PowersInRange};
 ghost use Rattle.tables.specs.Tables.{WritesTable};
 use sizes::TONE_BYTES;
 use sizes::TONES;
-
-// The total bits of a table.
-pub fn total_bits(count: u16, bits: &[u8; TONES]) -> u32
-    requires { ⌜ count ≤ mostTones ⌝ }
-    ensures { λ r. ⌜ r ≡ sum count (λ i. getD (before bits) i 0) ⌝ }
-{
-    let mut total: u32 = 0;
-    let mut i: u16 = 0;
-    while i < count {
-        // A reference to the byte, since that brings its range.
-        let tone = &bits[i as usize];
-        total += *tone as u32;
-        i += 1;
-    }
-    total
-}
 
 // The 9 bytes of a tone, from a place on.
 fn put_tone(out: &mut [u8], at: usize, bits: u8, power: u64)

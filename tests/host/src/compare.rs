@@ -2,6 +2,7 @@
 
 use crate::calls::{self, Call, Outcome};
 use crate::inputs::{input, Input, SAMPLE_INPUTS};
+use crate::totals;
 
 /// One input of one call.
 #[derive(Clone, Copy, PartialEq, Eq)]
@@ -44,6 +45,10 @@ pub fn compare(seed: u64, count: u64, mut tell: impl FnMut(Which)) -> Result<(),
                 if calls::ours(call, &input).as_ref() != Ok(&paper) {
                     return Err(report(Which { call, seed, index }));
                 }
+                totals::judge(call, &input, &paper).map_err(|fault| {
+                    let which = Which { call, seed, index };
+                    format!("{}{fault}\n{}", given(call, &input), again(which))
+                })?;
             }
         }
     }
@@ -67,6 +72,7 @@ pub fn one(which: Which) -> Result<String, String> {
     println!("{}", given(which.call, &input).trim_end());
     match calls::ours(which.call, &input) {
         Ok(ours) if ours == calls::papers(which.call, &input) => {
+            totals::judge(which.call, &input, &ours)?;
             Ok(format!("both:  {}", shown(&ours)))
         }
         ours => Err(judged(which, &input, ours)),

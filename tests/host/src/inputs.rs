@@ -10,6 +10,7 @@ use crate::paper::{tidy_length, ANSWER_BYTES, BYTES_A_TONE};
 use crate::random::Random;
 use crate::sheets::{commands, IN_TENTHS, SAMPLE};
 
+#[derive(Clone)]
 pub struct Input {
     pub sheet: Vec<u8>,
     pub start: Vec<u8>,

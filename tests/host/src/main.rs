@@ -13,6 +13,7 @@ mod random;
 mod sheets;
 mod speed;
 mod stack;
+mod totals;
 
 use calls::Call;
 use compare::Which;

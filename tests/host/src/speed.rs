@@ -1,4 +1,4 @@
-//! Our time and the independent loader's, side by side.
+//! Our time and the independent loader's, side by side; and what a step's time goes to.
 
 use crate::calls::{self, Buffer, Call};
 use crate::inputs::Input;
@@ -111,7 +111,8 @@ fn buffers(lent: &mut [Vec<u8>; 4]) -> [Buffer; 4] {
     lent.each_mut().map(|bytes| (bytes.as_mut_ptr(), bytes.len()))
 }
 
-fn row(call: Call, input: &Input) -> String {
+/// The best time of a call, ours and the paper's, in microseconds.
+fn best(call: Call, input: &Input) -> (f64, f64) {
     assert_eq!(calls::ours(call, input).as_ref(), Ok(&calls::papers(call, input)));
     let mut lent = lent(call, input);
     let buffers = buffers(&mut lent);
@@ -131,11 +132,27 @@ fn row(call: Call, input: &Input) -> String {
         our_best = our_best.min(time(calls, ours));
         papers_best = papers_best.min(time(calls, &mut papers));
     }
-    // SAFETY: the same four vectors.
-    let stack = unsafe { stack::used(call, buffers, input.target) };
-    let (our_best, papers_best) = (our_best * 1e6, papers_best * 1e6);
-    let ratio = our_best / papers_best;
-    format!("{:<12}{our_best:>10.3}{papers_best:>10.3}{ratio:>8.2}{stack:>8}", call.name())
+    (our_best * 1e6, papers_best * 1e6)
+}
+
+fn row(call: Call, input: &Input) -> String {
+    let (ours, papers) = best(call, input);
+    let mut lent = lent(call, input);
+    // SAFETY: four vectors, each with its own length.
+    let stack = unsafe { stack::used(call, buffers(&mut lent), input.target) };
+    let ratio = ours / papers;
+    format!("{:<12}{ours:>10.3}{papers:>10.3}{ratio:>8.2}{stack:>8}", call.name())
+}
+
+/// What the time of a single step goes to, told by three of our calls on one line: a
+/// check reads the sheet; a target of no bits also works out the limits, ranks the
+/// steps and writes a table; a step also judges, copies and moves its start.
+fn parts_of_a_step(tones: usize) -> String {
+    let input = Input { target: 0, ..SHAPES[0].input(tones) };
+    let time = |call| best(call, &input).0;
+    let (read, none, step) = (time(Call::Check), time(Call::LoadTarget), time(Call::RefitStep));
+    let (before, after) = (none - read, step - none);
+    format!("{tones:>5}{read:>10.3}{before:>26.3}{after:>14.3}{step:>10.3}\n")
 }
 
 /// One row for each line and call; times in microseconds, stack in bytes.
@@ -149,6 +166,11 @@ pub fn table() -> String {
                 table += &format!("{tones:>5} {:<14}{}\n", shape.name, row(call, &input));
             }
         }
+    }
+    table += "\nours us of one re-fit step, bound\n";
+    table += "tones   reading   limits, ranks, writing   start, move    in all\n";
+    for tones in TONES {
+        table += &parts_of_a_step(tones);
     }
     table
 }

@@ -24,16 +24,15 @@ put-table-requires c κs =
 
 returns-2 : tie.Need-returns-2
 returns-2 c = λ T L.
-    let e = c .before .before .before .before .before .before .before .before .before in
+    let e = c .before .before .before .before .before .before .before .before in
     let k = e .before .before .before .before in
     let h = e .before .before .if1 .left in
     let A : Arrays = arrays (k .args .limits .now) (k .args .costs .now) (k .args .doublings .now) in
     load-done {A = A}
     (record {
       stands = most-stands L (k .args .budget) (e .run .ensures T (noBits T) (none-stands L (e .before .no-bits .ensures .1)) .stands);
-      added-up = c .total-bits .ensures;
       room = h;
-      written = c .before .before .before .before .put-table .ensures (k .args .limits .now);
+      written = c .before .before .before .put-table .ensures (k .args .limits .now);
     })
     (mostOn T (k .args .budget)) (most-fits L (k .args .budget) h)
 
@@ -46,6 +45,5 @@ most-spec =
     (λ c κs. search needs)
     run-requires
     put-table-requires
-    (λ c κs. search needs)
     (λ c. search needs)
     returns-2)

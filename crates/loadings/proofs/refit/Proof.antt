@@ -16,8 +16,8 @@ returns c = λ T L. refit-refused (refitUpTo _ T _ _) _ (refit-short L _ _ _ (c 
 returns-2 : tie.Need-returns-2
 returns-2 c = λ T L. refit-refused (refitUpTo _ T _ _) _ (refit-length L _ _ _ (c .before .if1 .left) (λ m. omega (arith, c .if2 .taken)))
 
-cast-t22 : tie.Need-cast-t22
-cast-t22 c =
+cast-t23 : tie.Need-cast-t23
+cast-t23 c =
     let f = c .before .before .before in
     let L = f .before .before .before .before .before .pre .loadable in
     record { fits = omega (arith, first-tone L _ (f .before .if2 .left) _ (f .first-above .ensures) (c .before .above .given .1), L .in-range .count-high) }
@@ -44,11 +44,6 @@ put-table-requires c κs =
     let S = start-stands L _ (f .before .if2 .left) _ (f .first-above .ensures) (e .before .before .enum-told .given .1) (e .before .from-start .ensures (k .args .limits .now)) in
     (L .in-range .count-high, (writable L (e .run .ensures _ _ S .stands), f .before .before .if1 .left))
 
-total-bits-requires : tie.Need-total-bits-requires
-total-bits-requires c κs =
-    let e = c .before .before .before .before .before .before .before .before in
-    e .before .before .before .before .before .before .before .before .before .pre .loadable .in-range .count-high
-
 returns-3 : tie.Need-returns-3
 returns-3 c = λ T L.
     let f = c .before .before .before in
@@ -58,7 +53,7 @@ returns-3 c = λ T L.
 
 returns-4 : tie.Need-returns-4
 returns-4 c = λ T L.
-    let e = c .before .before .before .before .before .before .before .before .before in
+    let e = c .before .before .before .before .before .before .before .before in
     let f = e .before .before .before .before in
     let k = f .before .before .before .before .before in
     let m = f .before .if2 .left in
@@ -69,9 +64,8 @@ returns-4 c = λ T L.
     refit-done {A = A} {ran = run (refitStep T (k .args .budget)) (k .args .most) (k .args .start .now)}
     (record {
       stands = E .stands;
-      added-up = c .total-bits .ensures;
       room = h;
-      written = c .before .before .before .before .put-table .ensures (k .args .limits .now);
+      written = c .before .before .before .put-table .ensures (k .args .limits .now);
     })
     (refitUpTo (k .args .most) T (k .args .budget) (k .args .start .now))
     (refit-fits {A = A} L _ _ _ h m (none-above {A = A} L _ m _ (f .first-above .ensures) (e .before .before .enum-told .given .1)))
@@ -86,12 +80,11 @@ refit-spec =
     returns-2
     (λ c κs. search needs)
     (λ c. search needs)
-    cast-t22
+    cast-t23
     (λ c. search needs)
     from-start-requires
     run-requires
     put-table-requires
-    total-bits-requires
     returns-3
     (λ c. search needs)
     returns-4)

@@ -1,8 +1,7 @@
 -- `loadings::target` meets its contract. Assumes nothing.
-use mathlib.Core.Path.{refl, sym, _∙_}
+use mathlib.Core.Path.{refl}
 use Rattle.steps.specs.Tones.{noBits}
 use Rattle.line.specs.Arrays.{Arrays, arrays}
-use Rattle.line.proofs.Arrays.{stands-bits}
 use Rattle.loadings.specs.Loads.{targetOn}
 use Rattle.loadings.proofs.Runs.{runnable, none-stands, writable, carried-by, missed-by}
 use Rattle.loadings.proofs.Outcomes.{load-refused, load-done, target-short, target-missed, target-carried}
@@ -34,18 +33,17 @@ returns-2 c = λ T L.
 
 returns-3 : tie.Need-returns-3
 returns-3 c = λ T L.
-    let e = c .before .before .before .before .before .before .before .before .before in
+    let e = c .before .before .before .before .before .before .before .before .before .before in
     let k = e .before .before .before .before in
     let h = e .before .before .if1 .left in
     let A : Arrays = arrays (k .args .limits .now) (k .args .costs .now) (k .args .doublings .now) in
     let E = e .run .ensures T (noBits T) (none-stands L (e .before .no-bits .ensures .1)) in
-    let all = carried-by L (k .args .budget) (k .args .target) (E .progressed) (c .before .before .before .before .before .before .before .enum-told2 .given .1) in
+    let all = carried-by L (k .args .budget) (k .args .target) (E .progressed) (c .before .before .before .before .before .before .before .before .enum-told2 .given .1) in
     load-done {A = A}
     (record {
       stands = E .stands;
-      added-up = sym (stands-bits {A = A} (E .stands .table) ∙ all);
       room = h;
-      written = c .before .before .put-table .ensures (k .args .limits .now);
+      written = c .before .before .before .put-table .ensures (k .args .limits .now);
     })
     (targetOn T (k .args .budget) (k .args .target)) (target-carried L _ _ h refl all)
 

@@ -1,4 +1,5 @@
--- `starts::from_start` meets its contract. Between the turns the tones below i are copied, with their power. Assumes nothing.
+-- `starts::from_start` meets its contract. Between the turns the tones below i are copied, with their totals. Assumes nothing.
+use mathlib.Core.Path.{refl}
 use Prim.Native.Nat.{_-_}
 use native.Mathlib.Omega.{arith}
 use borrow.Author.Needs.{needs}
@@ -8,16 +9,16 @@ use Rattle.starts.proofs.from_start.Statement.{statement}
 use Rattle.starts.proofs.from_start.Tie as tie
 
 abbrev Inv-loop : tie.InvT-loop
-Inv-loop start costs doublings running₀ i₀ running i = Copied costs doublings start running i
+Inv-loop start costs doublings running₀ totals₀ i₀ running totals i = Copied costs doublings start (running .bits) totals i
 
 abbrev μ-loop : tie.MeasureT-loop
-μ-loop start costs doublings running₀ i₀ running i = length start - i
+μ-loop start costs doublings running₀ totals₀ i₀ running totals i = length start - i
 
 loop-holds : tie.Need-loop-holds Inv-loop μ-loop
-loop-holds c = rw (c .no-bits .ensures .0) none-copied
+loop-holds c = rw (c .before .no-bits .ensures .0) none-copied
 
-shared-slice-read-running : tie.Need-shared-slice-read-running Inv-loop μ-loop
-shared-slice-read-running c = omega arith
+shared-slice-element-tone : tie.Need-shared-slice-element-tone Inv-loop μ-loop
+shared-slice-element-tone c = omega arith
 
 element-write-running : tie.Need-element-write-running Inv-loop μ-loop
 element-write-running c = omega arith
@@ -31,19 +32,19 @@ element-copy-out-power-at c = omega arith
 element-copy-out-power-at-2 : tie.Need-element-copy-out-power-at-2 Inv-loop μ-loop
 element-copy-out-power-at-2 c = omega arith
 
-shared-slice-read-power-at : tie.Need-shared-slice-read-power-at Inv-loop μ-loop
-shared-slice-read-power-at c = omega arith
-
 power-at-requires : tie.Need-power-at-requires Inv-loop μ-loop
 power-at-requires c κs =
-    let ready = c .before .before .before .before .before .before .before .before .pre .1 in
+    let ready = c .before .before .before .before .before .before .before .before .before .pre .1 in
     (ready .cost-high _ (omega arith), ready .shift-high _ (omega arith))
 
-add-running : tie.Need-add-running Inv-loop μ-loop
-add-running c =
-    let a = c .before .before .before .before .before .before in
-    let p = a .before .before .before .pre in
-    omega (arith, c .power-at .ensures, a .loop .inv .power, power-room (p .1) (a .loop .i) (omega arith) (p .0))
+add-totals : tie.Need-add-totals Inv-loop μ-loop
+add-totals c =
+    let a = c .before .before .before .before .before .before .before in
+    let p = a .before .before .before .before .pre in
+    omega (arith, c .before .power-at .ensures, a .loop .inv .sum-power, power-room (p .1) (a .loop .i) (omega arith) (p .0))
+
+add-totals-2 : tie.Need-add-totals-2 Inv-loop μ-loop
+add-totals-2 c = omega arith
 
 add-i : tie.Need-add-i Inv-loop μ-loop
 add-i c = omega arith
@@ -52,7 +53,8 @@ loop-less : tie.Need-loop-less Inv-loop μ-loop
 loop-less c = omega arith
 
 loop-again : tie.Need-loop-again Inv-loop μ-loop
-loop-again c = copied-more (c .before .before .before .before .before .before .loop .inv) _ (omega arith) (omega arith) (c .power-at .ensures)
+loop-again c =
+    copied-more (c .before .before .before .before .before .before .before .before .before .loop .inv) _ _ (omega arith) (omega arith) refl (omega arith) (c .before .before .before .power-at .ensures)
 
 returns : tie.Need-returns Inv-loop μ-loop
 returns c = copied-stands (c .before .loop .inv) (omega arith)
@@ -65,14 +67,14 @@ from-start-spec =
     μ-loop
     (λ c κs. search needs)
     loop-holds
-    shared-slice-read-running
+    shared-slice-element-tone
     element-write-running
     mul-power-at
     element-copy-out-power-at
     element-copy-out-power-at-2
-    shared-slice-read-power-at
     power-at-requires
-    add-running
+    add-totals
+    add-totals-2
     add-i
     loop-less
     loop-again

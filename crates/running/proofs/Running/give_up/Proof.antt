@@ -10,7 +10,7 @@ use Rattle.running.proofs.Running.give_up.Tie as tie
 
 -- where the function begins
 abbrev entry : tie.After-put-ranks-arg5 → tie.Start
-entry c = c .before .before .before .before .before .before .before .before
+entry c = c .before .before .before .before .before .before .before .before .before .before
 
 put-ranks-requires : tie.Need-put-ranks-requires
 put-ranks-requires c κs =
@@ -30,6 +30,7 @@ pub give-up-spec : {M : Type 1} → statement M
 give-up-spec =
     tie.close
     (tie.spec
+    (λ c. search needs)
     (λ c. search needs)
     (λ c. search needs)
     (λ c. search needs)

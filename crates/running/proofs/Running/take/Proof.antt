@@ -15,7 +15,7 @@ add-more c = let P = c .before .pre in record { fits = omega (arith, limit-small
 
 -- where the function begins
 abbrev entry : tie.After-put-ranks-arg5 → tie.Start
-entry c = c .before .before .before .before .before .before .before .before
+entry c = c .before .before .before .before .before .before .before .before .before .before
 
 put-ranks-requires : tie.Need-put-ranks-requires
 put-ranks-requires c κs =
@@ -37,6 +37,7 @@ take-spec =
     (tie.spec
     (λ c. search needs)
     add-more
+    (λ c. search needs)
     (λ c. search needs)
     (λ c. search needs)
     (λ c. search needs)
