@@ -116,7 +116,9 @@ module _ {count : ℕ} {A : Arrays} {bits : List ℕ} {T : Tones} {t : Table} (S
 
   -- no table beside the arrays carries more bits
   pub bits-high : ArraysInRange count A → totalBits T t ≤ mostBitsOfAll
-  bits-high R = omega (arith, S .describes .same-count, R .count-high, sum-at-most (T .count) pairCap (_!_ t) (λ i il. high i (omega (arith, S .describes .same-count))))
+  bits-high R =
+      let n = S .describes .same-count in
+      omega (arith, n, R .count-high, sum-at-most (T .count) pairCap (_!_ t) (λ i il. high i (omega arith)))
     where
       high : (i : ℕ) → i < count → t ! i ≤ pairCap
       high i il = omega (arith, S .same-bits i il, stands-under .under i il, limit-small R i il)

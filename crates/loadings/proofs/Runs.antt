@@ -35,7 +35,10 @@ module _ {count : ℕ} {A : Arrays} {T : Tones} (L : Loadable count A T) where
 
   -- no line's limits add up to more
   pub limits-high : sumOfLimits T ≤ mostBitsOfAll
-  limits-high = omega (arith, few, sum-at-most (T .count) pairCap (T .limit) (λ i il. rw (L .describes .same-limit i (inside i il)) (limit-small (L .in-range) i (inside i il))))
+  limits-high = omega (arith, few, sum-at-most (T .count) pairCap (T .limit) high)
+    where
+      high : (i : ℕ) → i < T .count → T .limit i ≤ pairCap
+      high i il = rw (L .describes .same-limit i (inside i il)) (limit-small (L .in-range) i (inside i il))
 
   power-high : (i b : ℕ) → i < T .count → b ≤ T .limit i → T .power i b ≤ 2 ^ 39
   power-high i b il bl =

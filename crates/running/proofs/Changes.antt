@@ -1,5 +1,5 @@
--- What a move does to a running table. The laws: `took`, `gave-up`, `exchanges`, what each move leads to; `next-free`, `last-held`, `both`, the
--- table allows the move that is called for; `knows`, what the code knows of the table that the running table stands for; `power-high`, the
+-- What a move does to a running table. The laws: `took`, `gave-up`, `exchanges`, what each move leads to; `next-free`, `last-held`, `held-and-free`,
+-- the table allows the move that is called for; `knows`, what the code knows of the table that the running table stands for; `power-high`, the
 -- total leaves room for a step; `can-take`, `can-give-up`, `can-exchange`, the code may make the move that the table allows.
 -- Assumes nothing.
 use mathlib.Core.List.{List}
@@ -50,7 +50,10 @@ pub record Stored (A : Arrays) (bits free held newFree newHeld : List ℕ) (i b 
 
 followed : {count : ℕ} {A : Arrays} {bits free held newFree newHeld : List ℕ} {i b : ℕ} → Stored A bits free held newFree newHeld i b
     → i < count → Ranked count A bits free held → Ranked count A (set bits i b) newFree newHeld
-followed {i = i} {b} P l R = rw (P .free-rank, P .held-rank) (ranked-set R i b l (omega (arith, P .low, P .long)) (omega (arith, P .low, P .ranks-long)) (omega (arith, P .low, P .ranks-long)))
+followed {i = i} {b} P l R =
+    let low = P .low in
+    let long = P .ranks-long in
+    rw (P .free-rank, P .held-rank) (ranked-set R i b l (omega (arith, P .long)) (omega arith) (omega arith))
 
 -- ---- what each move leads to
 
@@ -99,7 +102,8 @@ module _ {A : Arrays} {r : Running} {free held newFree newHeld : List ℕ} where
 pub exchanges : {A : Arrays} {old fewer r : Running} {free held midFree midHeld newFree newHeld : List ℕ} {h f : Step}
     → Leads A old fewer free held midFree midHeld (λ T t. LastHeld T t h) (λ t. rule.givingUp t (h .tone))
     → Leads A fewer r midFree midHeld newFree newHeld (λ T t. NextFree T t f) (λ t. rule.taking t (f .tone))
-    → Leads A old r free held newFree newHeld (λ T t. LastHeld T t h × NextFree T (rule.givingUp t (h .tone)) f) (λ t. rule.taking (rule.givingUp t (h .tone)) (f .tone))
+    → Leads A old r free held newFree newHeld
+    (λ T t. LastHeld T t h × NextFree T (rule.givingUp t (h .tone)) f) (λ t. rule.taking (rule.givingUp t (h .tone)) (f .tone))
 exchanges {h = h} G K = record {
   stands = λ count T t S B. K .stands count T (rule.givingUp t (h .tone)) (G .stands count T t S (B .0)) (B .1);
   ranked = λ count T t S B R. K .ranked count T (rule.givingUp t (h .tone)) (G .stands count T t S (B .0)) (B .1) (G .ranked count T t S (B .0) R);
@@ -121,8 +125,8 @@ module _ {count : ℕ} {A : Arrays} {r : Running} {T : Tones} {t : Table} (S : S
   last-held N = let L = latest N in record { held = record { tone = L .tone; held = omega (arith, L .top) }; sized = N .sized }
 
   -- once the later step is given up, the earlier one is free still, and of the same size
-  pub both : {h f : Step} → Exchanges T t h f → LastHeld T t h × NextFree T (rule.givingUp t (h .tone)) f
-  both {h} {f} N =
+  pub held-and-free : {h f : Step} → Exchanges T t h f → LastHeld T t h × NextFree T (rule.givingUp t (h .tone)) f
+  held-and-free {h} {f} N =
       let B = S .table in
       let E = earliest (N .takes) in
       let L = latest (N .gives-up) in

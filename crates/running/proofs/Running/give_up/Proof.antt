@@ -23,8 +23,16 @@ returns c =
     let s = entry (c .before) in
     let P = s .pre in
     let n : length (s .args .self .bits) ≡ mostTones = search needs in
-    let stored = c .put-ranks .ensures in
-    (refl, gave-up (record { low = omega (arith, P .tone, P .in-range .count-high); long = n; ranks-long = stored .1 .1; free-rank = stored .0; held-rank = stored .1 .0 }))
+    let stored = c .put-ranks .ensures in (
+      refl,
+      gave-up (record {
+        low = omega (arith, P .tone, P .in-range .count-high);
+        long = n;
+        ranks-long = stored .1 .1;
+        free-rank = stored .0;
+        held-rank = stored .1 .0;
+      }),
+    )
 
 pub give-up-spec : {M : Type 1} → statement M
 give-up-spec =

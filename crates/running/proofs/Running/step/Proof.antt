@@ -12,7 +12,7 @@ use Rattle.ranks.specs.Ranks.{noStep}
 use Rattle.ranks.proofs.Least.{least-free, least-held}
 use Rattle.moves.specs.Moves.{ruleOf, LatestAt, CallsFor}
 use Rattle.running.specs.Running.{Stands, NextFree, LastHeld}
-use Rattle.running.proofs.Changes.{next-free, last-held, both, knows, power-high, can-take, can-give-up, can-exchange}
+use Rattle.running.proofs.Changes.{next-free, last-held, held-and-free, knows, power-high, can-take, can-give-up, can-exchange}
 use Rattle.running.proofs.Running.step.Statement.{statement}
 use Rattle.running.proofs.Running.step.Tie as tie
 
@@ -47,9 +47,9 @@ free c = next-free (c .before .before .before .before .before .before .pre .0 .s
 held : (c : tie.After-next2) → let R = c .before .before .before .before .before .before .pre .0 in LastHeld (R .tones) (R .table) (c .next2 .given .0 .0)
 held c = last-held (c .before .before .before .before .before .before .pre .0 .stands) ((rw (c .next2 .given .1) at (known (c .before .before))) .1)
 
-held-free : (c : tie.After-next3) → let R = c .before .before .before .before .before .before .pre .0 in let h = c .next3 .given .0 .0 in
+both : (c : tie.After-next3) → let R = c .before .before .before .before .before .before .pre .0 in let h = c .next3 .given .0 .0 in
     LastHeld (R .tones) (R .table) h × NextFree (R .tones) (givingUp (R .table) (h .tone)) (c .next3 .given .0 .1 .0)
-held-free c = both (c .before .before .before .before .before .before .pre .0 .stands) ((rw (c .next3 .given .1) at (known (c .before .before))) .1)
+both c = held-and-free (c .before .before .before .before .before .before .pre .0 .stands) ((rw (c .next3 .given .1) at (known (c .before .before))) .1)
 
 take-requires : tie.Need-take-requires
 take-requires c κs = can-take (c .before .before .before .before .before .before .before .before .before .pre .0) (free (c .before .before .before))
@@ -60,11 +60,14 @@ give-up-requires c κs = can-give-up (c .before .before .before .before .before 
 exchange-requires : tie.Need-exchange-requires
 exchange-requires c κs =
     let s = c .before .before .before .before .before .before .before .before .before in
-    let B = held-free (c .before .before .before) in
+    let B = both (c .before .before .before) in
     (can-give-up (s .pre .0) (B .0), can-exchange (s .pre .0) (long s) B)
 
 returns : tie.Need-returns
-returns c = (λ T t S. rw (rw (c .enum-told3 .given .1) at (called (c .before .before) T t S)) (refl, refl), c .before .before .before .before .before .before .pre .1)
+returns c = (
+  λ T t S. rw (rw (c .enum-told3 .given .1) at (called (c .before .before) T t S)) (refl, refl),
+  c .before .before .before .before .before .before .pre .1,
+)
 
 returns-2 : tie.Need-returns-2
 returns-2 c =
@@ -89,8 +92,8 @@ returns-4 c =
     let s = c .before .before .before .before .before .before .before .before .before .before in
     let at = c .before .before .before .before in
     let did = c .exchange .ensures .1 in (
-      λ T t S. let N = rw (at .next3 .given .1) at (called (at .before .before) T t S) in rw (N .0) (refl, did .stands _ T t S (both S (N .1))),
-      did .ranked (s .args .count) _ _ (s .pre .0 .stands) (held-free at) (s .pre .1),
+      λ T t S. let N = rw (at .next3 .given .1) at (called (at .before .before) T t S) in rw (N .0) (refl, did .stands _ T t S (held-and-free S (N .1))),
+      did .ranked (s .args .count) _ _ (s .pre .0 .stands) (both at) (s .pre .1),
     )
 
 pub step-spec : {M : Type 1} → statement M

@@ -29,7 +29,16 @@ returns c =
     let P = s .pre in
     let n : length (s .args .self .bits) ≡ mostTones = search needs in
     let stored = c .put-ranks .ensures in
-    rw add-one (refl, took (record { low = omega (arith, P .tone, P .in-range .count-high); long = n; ranks-long = stored .1 .1; free-rank = rw add-one at (stored .0); held-rank = rw add-one at (stored .1 .0) }))
+    rw add-one (
+      refl,
+      took (record {
+        low = omega (arith, P .tone, P .in-range .count-high);
+        long = n;
+        ranks-long = stored .1 .1;
+        free-rank = rw add-one at (stored .0);
+        held-rank = rw add-one at (stored .1 .0);
+      }),
+    )
 
 pub take-spec : {M : Type 1} → statement M
 take-spec =
