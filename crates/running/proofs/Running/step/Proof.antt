@@ -7,7 +7,7 @@ use lib.ListN.{length}
 use Rattle.sizes.specs.Sizes.{mostTones}
 use Rattle.steps.specs.Tones.{Tones, Table}
 use Rattle.steps.specs.Runs.{givingUp}
-use Rattle.line.specs.Arrays.{arrays}
+use Rattle.line.specs.Arrays.{Arrays, arrays}
 use Rattle.ranks.specs.Ranks.{noStep}
 use Rattle.ranks.proofs.Least.{least-free, least-held}
 use Rattle.moves.specs.Moves.{ruleOf, LatestAt, CallsFor}
@@ -15,6 +15,10 @@ use Rattle.running.specs.Running.{Stands, NextFree, LastHeld}
 use Rattle.running.proofs.Changes.{next-free, last-held, held-and-free, knows, power-high, can-take, can-give-up, can-exchange}
 use Rattle.running.proofs.Running.step.Statement.{statement}
 use Rattle.running.proofs.Running.step.Tie as tie
+
+-- the arrays that it was lent
+abbrev lent : tie.Start → Arrays
+lent s = arrays (s .args .limits .now) (s .args .costs .now) (s .args .doublings .now)
 
 -- a running table has bits for the most tones
 long : (s : tie.Start) → length (s .args .self .bits) ≡ mostTones
@@ -25,7 +29,7 @@ next-move-requires c κs = omega (arith, power-high (c .before .before .before .
 
 -- the move is the one that the rule calls for, whatever table the running table stands for
 called : (c : tie.After-next-move) (T : Tones) (t : Table) → let s = c .before .before .before .before in
-    Stands (s .args .count) (arrays (s .args .limits .now) (s .args .costs .now) (s .args .doublings .now)) (s .args .self) T t
+    Stands (s .args .count) (lent s) (s .args .self) T t
     → CallsFor T t (c .next-move .result) (ruleOf (s .args .rule) T (s .args .budget) t)
 unfolding noStep
 called c T t S =
@@ -74,7 +78,7 @@ returns-2 c =
     let s = c .before .before .before .before .before .before .before .before .before .before in
     let at = c .before .before .before .before in
     let did = c .take .ensures .1 in (
-      λ T t S. let N = rw (at .next .given .1) at (called (at .before .before) T t S) in rw (N .0) (refl, did .stands _ T t S (next-free S (N .1))),
+      λ T t S. let N = rw (at .next .given .1) at (called (at .before .before) T t S) in rw (N .0) (refl, did .stands _ T t S (next-free {A = lent s} S (N .1))),
       did .ranked (s .args .count) _ _ (s .pre .0 .stands) (free at) (s .pre .1),
     )
 
@@ -83,7 +87,7 @@ returns-3 c =
     let s = c .before .before .before .before .before .before .before .before .before .before in
     let at = c .before .before .before .before in
     let did = c .give-up .ensures .1 in (
-      λ T t S. let N = rw (at .next2 .given .1) at (called (at .before .before) T t S) in rw (N .0) (refl, did .stands _ T t S (last-held S (N .1))),
+      λ T t S. let N = rw (at .next2 .given .1) at (called (at .before .before) T t S) in rw (N .0) (refl, did .stands _ T t S (last-held {A = lent s} S (N .1))),
       did .ranked (s .args .count) _ _ (s .pre .0 .stands) (held at) (s .pre .1),
     )
 
@@ -92,7 +96,7 @@ returns-4 c =
     let s = c .before .before .before .before .before .before .before .before .before .before in
     let at = c .before .before .before .before in
     let did = c .exchange .ensures .1 in (
-      λ T t S. let N = rw (at .next3 .given .1) at (called (at .before .before) T t S) in rw (N .0) (refl, did .stands _ T t S (held-and-free S (N .1))),
+      λ T t S. let N = rw (at .next3 .given .1) at (called (at .before .before) T t S) in rw (N .0) (refl, did .stands _ T t S (held-and-free {A = lent s} S (N .1))),
       did .ranked (s .args .count) _ _ (s .pre .0 .stands) (both at) (s .pre .1),
     )
 
