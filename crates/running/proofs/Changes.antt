@@ -1,6 +1,7 @@
--- What a move does to a running table. The laws: `took`, `gave-up`, `exchanges`, what each move leads to; `next-free`, `last-held`, `held-and-free`,
--- the table allows the move that is called for; `knows`, what the code knows of the table that the running table stands for; `power-high`, the
--- total leaves room for a step; `can-take`, `can-give-up`, `can-exchange`, the code may make the move that the table allows.
+-- What a move does to a running table. The laws: `inside`, a tone of the table is one of the arrays'; `followed`, `both-followed`, the kept ranks
+-- follow a move; `took`, `gave-up`, `exchanges`, what each move leads to; `next-free`, `last-held`, `held-and-free`, the table allows the move that
+-- is called for; `knows`, what the code knows of the table that the running table stands for; `power-high`, the total leaves room for a step;
+-- `can-take`, `can-give-up`, `can-exchange`, the code may make the move that the table allows.
 -- Assumes nothing.
 use mathlib.Core.List.{List}
 use mathlib.Core.Path.{_≡_, sym, ap, _∙_}
@@ -17,19 +18,20 @@ use Rattle.steps.proofs.Changes.{taking-within, total-taking, bits-taking, givi
 use Rattle.steps.proofs.Order.{before-place}
 use Rattle.line.specs.Arrays.{Arrays, limitAt, costAt, doublingsAt, ArraysInRange, StandsFor}
 use Rattle.line.proofs.Arrays.{stands-under, bits-high}
-use Rattle.ranks.specs.Ranks.{freeRank, heldRank, rankFree, Ranked}
+use Rattle.ranks.specs.Ranks.{freeRank, heldRank, rankFree}
 use Rattle.ranks.proofs.Kept.{ranked-set}
 use Rattle.moves.specs.declared.Rule.{Rule}
 use Rattle.moves.specs.declared.Step.{Step}
 use Rattle.moves.specs.Moves.{LatestAt, Knows, Takes, GivesUp, Exchanges}
 use Rattle.moves.proofs.Named.{small}
 use Rattle.running.specs.declared.Running.{Running}
-use Rattle.running.specs.Running.{Stands, Runnable, taken, givenUp, CanTake, CanGiveUp, NextFree, LastHeld, Leads}
+use Rattle.running.specs.declared.Totals.{Totals}
+use Rattle.running.specs.Running.{Stands, Runnable, taken, givenUp, CanTake, CanGiveUp, NextFree, LastHeld, Leads, RanksFollow}
 
 -- ---- one tone's bits change
 
 module _ {count : ℕ} {A : Arrays} {bits : List ℕ} {T : Tones} {t : Table} (S : StandsFor count A bits T t) where
-  inside : {i : ℕ} → i < T .count → i < count
+  pub inside : {i : ℕ} → i < T .count → i < count
   inside l = omega (arith, S .describes .same-count)
 
   -- the same bits stored in both
@@ -40,20 +42,13 @@ module _ {count : ℕ} {A : Arrays} {bits : List ℕ} {T : Tones} {t : Table} (S
       by j jl (yes e) = rw e (getD-set-same t i v 0 (omega (arith, S .within .sized)) ∙ sym (getD-set-same bits i v 0 bl))
       by j jl (no m) = getD-set-other t i j v 0 m ∙ S .same-bits j jl ∙ sym (getD-set-other bits i j v 0 m)
 
--- the bits and the ranks of tone i are stored
-pub record Stored (A : Arrays) (bits free held newFree newHeld : List ℕ) (i b : ℕ) : Type 0 where
-  pub low : i < mostTones
-  pub long : length bits ≡ mostTones
-  pub ranks-long : (length free ≡ mostTones) × (length held ≡ mostTones)
-  pub free-rank : newFree ≡ set free i (freeRank i (limitAt A i) (costAt A i) (doublingsAt A i) b)
-  pub held-rank : newHeld ≡ set held i (heldRank i (costAt A i) (doublingsAt A i) b)
-
-followed : {count : ℕ} {A : Arrays} {bits free held newFree newHeld : List ℕ} {i b : ℕ} → Stored A bits free held newFree newHeld i b
-    → i < count → Ranked count A bits free held → Ranked count A (set bits i b) newFree newHeld
-followed {i = i} {b} P l R =
-    let low = P .low in
-    let long = P .ranks-long in
-    rw (P .free-rank, P .held-rank) (ranked-set R i b l (omega (arith, P .long)) (omega arith) (omega arith))
+-- the ranks of a tone are stored with its bits
+pub followed : {A : Arrays} {r : Running} {free held newFree newHeld : List ℕ} (i b : ℕ) (s : Totals) → i < mostTones → length (r .bits) ≡ mostTones
+    → (length free ≡ mostTones) × (length held ≡ mostTones)
+    → newFree ≡ set free i (freeRank i (limitAt A i) (costAt A i) (doublingsAt A i) b)
+    → newHeld ≡ set held i (heldRank i (costAt A i) (doublingsAt A i) b)
+    → RanksFollow A r (record { bits = set (r .bits) i b; totals = s }) free held newFree newHeld (λ n. i < n)
+followed i b s l n m f h = record { still-ranked = λ count q R. rw (f, h) (ranked-set R i b q (omega arith) (omega arith) (omega arith)) }
 
 -- ---- what each move leads to
 
@@ -83,31 +78,23 @@ module _ {count : ℕ} {A : Arrays} {r : Running} {T : Tones} {t : Table} (S : S
         };
       }
 
-module _ {A : Arrays} {r : Running} {free held newFree newHeld : List ℕ} where
-  pub took : {f : Step} → Stored A (r .bits) free held newFree newHeld (f .tone) (suc (getD (r .bits) (f .tone) 0))
-      → Leads A r (taken r f) free held newFree newHeld (λ T t. NextFree T t f) (λ t. rule.taking t (f .tone))
-  took P = record {
-    stands = λ count T t S F. take-stands S (omega (arith, P .low, P .long)) F;
-    ranked = λ count T t S F. followed P (inside (S .table) (F .free .tone));
-  }
+module _ {A : Arrays} {r : Running} where
+  pub took : {f : Step} → f .tone < length (r .bits) → Leads A r (taken r f) (λ T t. NextFree T t f) (λ t. rule.taking t (f .tone))
+  took l = record { stands = λ count T t S F. take-stands S l F }
 
-  pub gave-up : {h : Step} → Stored A (r .bits) free held newFree newHeld (h .tone) (getD (r .bits) (h .tone) 0 - 1)
-      → Leads A r (givenUp r h) free held newFree newHeld (λ T t. LastHeld T t h) (λ t. rule.givingUp t (h .tone))
-  gave-up P = record {
-    stands = λ count T t S H. give-up-stands S (omega (arith, P .low, P .long)) H;
-    ranked = λ count T t S H. followed P (inside (S .table) (H .held .tone));
-  }
+  pub gave-up : {h : Step} → h .tone < length (r .bits) → Leads A r (givenUp r h) (λ T t. LastHeld T t h) (λ t. rule.givingUp t (h .tone))
+  gave-up l = record { stands = λ count T t S H. give-up-stands S l H }
 
 -- one after the other
-pub exchanges : {A : Arrays} {old fewer r : Running} {free held midFree midHeld newFree newHeld : List ℕ} {h f : Step}
-    → Leads A old fewer free held midFree midHeld (λ T t. LastHeld T t h) (λ t. rule.givingUp t (h .tone))
-    → Leads A fewer r midFree midHeld newFree newHeld (λ T t. NextFree T t f) (λ t. rule.taking t (f .tone))
-    → Leads A old r free held newFree newHeld
-    (λ T t. LastHeld T t h × NextFree T (rule.givingUp t (h .tone)) f) (λ t. rule.taking (rule.givingUp t (h .tone)) (f .tone))
-exchanges {h = h} G K = record {
-  stands = λ count T t S B. K .stands count T (rule.givingUp t (h .tone)) (G .stands count T t S (B .0)) (B .1);
-  ranked = λ count T t S B R. K .ranked count T (rule.givingUp t (h .tone)) (G .stands count T t S (B .0)) (B .1) (G .ranked count T t S (B .0) R);
-}
+module _ {A : Arrays} {old fewer r : Running} where
+  pub exchanges : {h f : Step} → Leads A old fewer (λ T t. LastHeld T t h) (λ t. rule.givingUp t (h .tone))
+      → Leads A fewer r (λ T t. NextFree T t f) (λ t. rule.taking t (f .tone))
+      → Leads A old r (λ T t. LastHeld T t h × NextFree T (rule.givingUp t (h .tone)) f) (λ t. rule.taking (rule.givingUp t (h .tone)) (f .tone))
+  exchanges {h} G K = record { stands = λ count T t S B. K .stands count T (rule.givingUp t (h .tone)) (G .stands count T t S (B .0)) (B .1) }
+
+  pub both-followed : {free held midFree midHeld newFree newHeld : List ℕ} {i j : ℕ} → RanksFollow A old fewer free held midFree midHeld (λ n. i < n)
+      → RanksFollow A fewer r midFree midHeld newFree newHeld (λ n. j < n) → RanksFollow A old r free held newFree newHeld (λ n. (i < n) × (j < n))
+  both-followed G K = record { still-ranked = λ count q R. K .still-ranked count (q .1) (G .still-ranked count (q .0) R) }
 
 -- ---- the table allows the move that is called for
 

@@ -85,11 +85,13 @@ pub record LastHeld (T : Tones) (t : Table) (h : Step) : Type 0 where
   pub sized : h .size ≡ step T (h .tone) (t ! h .tone - 1)
 
 -- What a move does, whatever table the running table stands for, if that table allows the move: it then stands for the table that the move
--- leads to; and if the kept ranks were those of its bits, they still are.
-pub record Leads (A : Arrays) (old r : Running) (free held newFree newHeld : List ℕ) (allows : Tones → Table → Type 0) (to : Table → Table) : Type 0 where
+-- leads to.
+pub record Leads (A : Arrays) (old r : Running) (allows : Tones → Table → Type 0) (to : Table → Table) : Type 0 where
   pub stands : (count : ℕ) (T : Tones) (t : Table) → Stands count A old T t → allows T t → Stands count A r T (to t)
-  pub ranked : (count : ℕ) (T : Tones) (t : Table) → Stands count A old T t → allows T t
-      → Ranked count A (old .bits) free held → Ranked count A (r .bits) newFree newHeld
+
+-- The kept ranks follow a move of steps of the first so many tones: if they were those of the bits before it, they are those of the bits after it.
+pub record RanksFollow (A : Arrays) (old r : Running) (free held newFree newHeld : List ℕ) (among : (count : ℕ) → Type 0) : Type 0 where
+  pub still-ranked : (count : ℕ) → among count → Ranked count A (old .bits) free held → Ranked count A (r .bits) newFree newHeld
 
 -- ---- a step of a rule
 

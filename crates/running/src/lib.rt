@@ -1,11 +1,12 @@
 // The running table, the moves that change it, and the step of a rule. Document 01, 'The loading runs': 'The running table goes into a step
 // and comes back with the answer 'moved' or 'finished'.'
 ghost use mathlib.Core.Path.{_≡_};
+ghost use Prim.Native.Nat.{_<_};
 ghost use Rattle.lists.specs.Lent.{before, after};
+ghost use Rattle.steps.specs.Runs.{taking, givingUp};
 ghost use Rattle.line.specs.Arrays.{arrays, arraysBefore};
 ghost use Rattle.ranks.specs.Ranks.{Ranked};
-ghost use Rattle.steps.specs.Runs.{taking, givingUp};
-ghost use Rattle.running.specs.Running.{taken, givenUp, exchanged, CanTake, CanGiveUp, NextFree, LastHeld, Leads, Runnable, StepsBy};
+ghost use Rattle.running.specs.Running.{taken, givenUp, exchanged, CanTake, CanGiveUp, NextFree, LastHeld, Leads, RanksFollow, Runnable, StepsBy};
 use moves::Move;
 use moves::Rule;
 use moves::Step;
@@ -50,8 +51,8 @@ impl Running {
     ) -> Running
         requires { ⌜ CanTake (arrays (now limits) (now costs) (now doublings)) self f ⌝ }
         ensures { λ r. ⌜ r ≡ taken self f ⌝ }
-        ensures { λ r. ⌜ Leads (arraysBefore limits costs doublings) self r (before free) (before held) (after free) (after held)
-            (λ T t. NextFree T t f) (λ t. taking t (f .tone)) ⌝ }
+        ensures { λ r. ⌜ Leads (arraysBefore limits costs doublings) self r (λ T t. NextFree T t f) (λ t. taking t (f .tone)) ⌝ }
+        ensures { λ r. ⌜ RanksFollow (arraysBefore limits costs doublings) self r (before free) (before held) (after free) (after held) (λ n. f .tone < n) ⌝ }
     {
         let mut bits = self.bits;
         let tone = f.tone;
@@ -86,8 +87,8 @@ impl Running {
     ) -> Running
         requires { ⌜ CanGiveUp (arrays (now limits) (now costs) (now doublings)) self h ⌝ }
         ensures { λ r. ⌜ r ≡ givenUp self h ⌝ }
-        ensures { λ r. ⌜ Leads (arraysBefore limits costs doublings) self r (before free) (before held) (after free) (after held)
-            (λ T t. LastHeld T t h) (λ t. givingUp t (h .tone)) ⌝ }
+        ensures { λ r. ⌜ Leads (arraysBefore limits costs doublings) self r (λ T t. LastHeld T t h) (λ t. givingUp t (h .tone)) ⌝ }
+        ensures { λ r. ⌜ RanksFollow (arraysBefore limits costs doublings) self r (before free) (before held) (after free) (after held) (λ n. h .tone < n) ⌝ }
     {
         let mut bits = self.bits;
         let tone = h.tone;
@@ -110,7 +111,7 @@ impl Running {
         self
     }
 
-    // Exchanges a held step for a free one of another tone: as many bits in all.
+    // Exchanges a held step for a free one: as many bits in all. The tones' kept ranks follow.
     fn exchange(
         mut self,
         h: Step,
@@ -124,8 +125,10 @@ impl Running {
         requires { ⌜ CanGiveUp (arrays (now limits) (now costs) (now doublings)) self h ⌝ }
         requires { ⌜ CanTake (arrays (now limits) (now costs) (now doublings)) (givenUp self h) f ⌝ }
         ensures { λ r. ⌜ r ≡ exchanged self h f ⌝ }
-        ensures { λ r. ⌜ Leads (arraysBefore limits costs doublings) self r (before free) (before held) (after free) (after held)
+        ensures { λ r. ⌜ Leads (arraysBefore limits costs doublings) self r
             (λ T t. LastHeld T t h × NextFree T (givingUp t (h .tone)) f) (λ t. taking (givingUp t (h .tone)) (f .tone)) ⌝ }
+        ensures { λ r. ⌜ RanksFollow (arraysBefore limits costs doublings) self r (before free) (before held) (after free) (after held)
+            (λ n. (h .tone < n) × (f .tone < n)) ⌝ }
     {
         self = self.give_up(h, limits, costs, doublings, free, held);
         self.take(f, limits, costs, doublings, free, held)

@@ -1,10 +1,11 @@
 -- `running::Running::give_up` meets its contract. Assumes nothing.
 use mathlib.Core.Path.{_≡_, refl}
+use Prim.Native.Nat.{_<_}
 use native.Mathlib.Omega.{arith}
 use borrow.Author.Needs.{needs}
 use lib.ListN.{length}
 use Rattle.sizes.specs.Sizes.{mostTones}
-use Rattle.running.proofs.Changes.{gave-up}
+use Rattle.running.proofs.Changes.{followed, gave-up}
 use Rattle.running.proofs.Running.give_up.Statement.{statement}
 use Rattle.running.proofs.Running.give_up.Tie as tie
 
@@ -23,16 +24,9 @@ returns c =
     let s = entry (c .before) in
     let P = s .pre in
     let n : length (s .args .self .bits) ≡ mostTones = search needs in
-    let stored = c .put-ranks .ensures in (
-      refl,
-      gave-up (record {
-        low = omega (arith, P .tone, P .in-range .count-high);
-        long = n;
-        ranks-long = stored .1 .1;
-        free-rank = stored .0;
-        held-rank = stored .1 .0;
-      }),
-    )
+    let l : s .args .h .tone < mostTones = omega (arith, P .tone, P .in-range .count-high) in
+    let stored = c .put-ranks .ensures in
+    (refl, (gave-up (omega arith), followed _ _ _ l n (stored .1 .1) (stored .0) (stored .1 .0)))
 
 pub give-up-spec : {M : Type 1} → statement M
 give-up-spec =

@@ -12,7 +12,7 @@ use Rattle.ranks.specs.Ranks.{noStep}
 use Rattle.ranks.proofs.Least.{least-free, least-held}
 use Rattle.moves.specs.Moves.{ruleOf, LatestAt, CallsFor}
 use Rattle.running.specs.Running.{Stands, NextFree, LastHeld}
-use Rattle.running.proofs.Changes.{next-free, last-held, held-and-free, knows, power-high, can-take, can-give-up, can-exchange}
+use Rattle.running.proofs.Changes.{inside, next-free, last-held, held-and-free, knows, power-high, can-take, can-give-up, can-exchange}
 use Rattle.running.proofs.Running.step.Statement.{statement}
 use Rattle.running.proofs.Running.step.Tie as tie
 
@@ -78,8 +78,8 @@ returns-2 c =
     let s = c .before .before .before .before .before .before .before .before .before .before in
     let at = c .before .before .before .before in
     let did = c .take .ensures .1 in (
-      λ T t S. let N = rw (at .next .given .1) at (called (at .before .before) T t S) in rw (N .0) (refl, did .stands _ T t S (next-free {A = lent s} S (N .1))),
-      did .ranked (s .args .count) _ _ (s .pre .0 .stands) (free at) (s .pre .1),
+      λ T t S. let N = rw (at .next .given .1) at (called (at .before .before) T t S) in rw (N .0) (refl, did .0 .stands _ T t S (next-free {A = lent s} S (N .1))),
+      did .1 .still-ranked (s .args .count) (inside (s .pre .0 .stands .table) (free at .free .tone)) (s .pre .1),
     )
 
 returns-3 : tie.Need-returns-3
@@ -87,17 +87,18 @@ returns-3 c =
     let s = c .before .before .before .before .before .before .before .before .before .before in
     let at = c .before .before .before .before in
     let did = c .give-up .ensures .1 in (
-      λ T t S. let N = rw (at .next2 .given .1) at (called (at .before .before) T t S) in rw (N .0) (refl, did .stands _ T t S (last-held {A = lent s} S (N .1))),
-      did .ranked (s .args .count) _ _ (s .pre .0 .stands) (held at) (s .pre .1),
+      λ T t S. let N = rw (at .next2 .given .1) at (called (at .before .before) T t S) in rw (N .0) (refl, did .0 .stands _ T t S (last-held {A = lent s} S (N .1))),
+      did .1 .still-ranked (s .args .count) (inside (s .pre .0 .stands .table) (held at .held .tone)) (s .pre .1),
     )
 
 returns-4 : tie.Need-returns-4
 returns-4 c =
     let s = c .before .before .before .before .before .before .before .before .before .before in
     let at = c .before .before .before .before in
+    let B = s .pre .0 .stands .table in
     let did = c .exchange .ensures .1 in (
-      λ T t S. let N = rw (at .next3 .given .1) at (called (at .before .before) T t S) in rw (N .0) (refl, did .stands _ T t S (held-and-free {A = lent s} S (N .1))),
-      did .ranked (s .args .count) _ _ (s .pre .0 .stands) (both at) (s .pre .1),
+      λ T t S. let N = rw (at .next3 .given .1) at (called (at .before .before) T t S) in rw (N .0) (refl, did .0 .stands _ T t S (held-and-free {A = lent s} S (N .1))),
+      did .1 .still-ranked (s .args .count) (inside B (both at .0 .held .tone), inside B (both at .1 .free .tone)) (s .pre .1),
     )
 
 pub step-spec : {M : Type 1} → statement M

@@ -1,12 +1,13 @@
 -- `running::Running::take` meets its contract. Assumes nothing.
 use mathlib.Core.Path.{_≡_, refl}
+use Prim.Native.Nat.{_<_}
 use native.Mathlib.Numerals.{add-one}
 use native.Mathlib.Omega.{arith}
 use borrow.Author.Needs.{needs}
 use lib.ListN.{length}
 use Rattle.sizes.specs.Sizes.{mostTones}
 use Rattle.line.proofs.Arrays.{limit-small}
-use Rattle.running.proofs.Changes.{took}
+use Rattle.running.proofs.Changes.{followed, took}
 use Rattle.running.proofs.Running.take.Statement.{statement}
 use Rattle.running.proofs.Running.take.Tie as tie
 
@@ -28,17 +29,9 @@ returns c =
     let s = entry (c .before) in
     let P = s .pre in
     let n : length (s .args .self .bits) ≡ mostTones = search needs in
+    let l : s .args .f .tone < mostTones = omega (arith, P .tone, P .in-range .count-high) in
     let stored = c .put-ranks .ensures in
-    rw add-one (
-      refl,
-      took (record {
-        low = omega (arith, P .tone, P .in-range .count-high);
-        long = n;
-        ranks-long = stored .1 .1;
-        free-rank = rw add-one at (stored .0);
-        held-rank = rw add-one at (stored .1 .0);
-      }),
-    )
+    (rw add-one refl, (rw add-one (took (omega arith)), followed _ _ _ l n (stored .1 .1) (stored .0) (stored .1 .0)))
 
 pub take-spec : {M : Type 1} → statement M
 take-spec =
