@@ -5,12 +5,13 @@ use mathlib.Core.Bool.{cond}
 use mathlib.Core.List.{List, [], _∷_, _++_}
 use mathlib.Core.Path.{_≡_}
 use Prim.Native.Nat.{ℕ, _+_, _*_, _^_, _≤_}
-use lib.Dec.{eqb}
+use lib.Dec.{eqb, ltb}
 use lib.ListN.{length, take, drop}
+use Rattle.sizes.specs.Sizes.{answerRoom}
 use Rattle.bigendian.specs.Number.{bytes}
 use Rattle.refusals.specs.declared.Refusal.the-variants.{DestinationTooSmall}
 use Rattle.refusals.specs.Refusals.{Outcome, refusal}
-use Rattle.sheet.specs.Reading.{Meaning, accepted, refused}
+use Rattle.sheet.specs.Reading.{Meaning, accepted, refused, reading}
 use Rattle.answers.specs.declared.Reply.{Reply}
 
 abbrev pub code : Outcome → ℕ
@@ -47,3 +48,11 @@ pub record Says (a : Reply) (o : Outcome) : Type 0 where
 abbrev pub withoutRoom : Meaning → Outcome
 withoutRoom (refused r) = refusal 0 r
 withoutRoom (accepted l) = refusal 0 DestinationTooSmall
+
+-- refusal 8 comes after the refusals of the sheet and before any other
+abbrev pub hosted : (sheet answer : List ℕ) → Outcome → Outcome
+hosted sheet answer o = cond (ltb (length answer) answerRoom) (withoutRoom (reading sheet)) o
+
+-- without room for the answers no byte of another buffer changes
+abbrev pub hostedBuffer : (answer old after : List ℕ) → List ℕ
+hostedBuffer answer old after = cond (ltb (length answer) answerRoom) old after

@@ -1,2 +1,3 @@
+pub mod Indexed
 pub mod Filling
 pub mod Uses

@@ -20,11 +20,13 @@ use Rattle.loadings.specs.declared.Loaded.{Loaded}
 use Rattle.loadings.specs.declared.Refitted.{Refitted}
 use Rattle.loadings.specs.Loads.{Loading, loaded, mostOn, targetOn, loadAnswer, loadNumbers, loadOutcome, afterLoading, LoadsAs}
 use Rattle.loadings.specs.Refits.{refitOn, refitAnswer, refitNumbers, refitOutcome, RefitsAs}
+use Rattle.refusals.specs.Writing.{afterWriting}
+use Rattle.refusals.proofs.Writing.{fits}
 use Rattle.sheet.specs.Reading.{accepted, reading}
 use Rattle.sheet.proofs.Sound.{Bytes, accepted-sound}
 use Rattle.tidyform.specs.Tidy.{tidy}
 use Rattle.tidyform.proofs.Tidied.{tidy-keeps}
-use Rattle.tidy.specs.Tidying.{afterTidying}
+use Rattle.tidy.specs.Tidying.{tidying}
 use Rattle.loader.specs.Calls.{loadMost, loadTarget, refit, oneStep, refitBy}
 use Rattle.loader.specs.Claims.{MostBits, MostBitsOn, SameLoading, Demand3On, TargetMet, TargetOn, TidyOn}
 use Rattle.loader.proofs.Outcomes.{whole, single}
@@ -108,8 +110,8 @@ module _ (s : List ℕ) (b : Bytes s) (old new : List ℕ) where
 
 -- ---- tidying
 
-pub tidy-call : (s : List ℕ) → Bytes s → (old : List ℕ) {new : List ℕ} → new ≡ afterTidying (reading s) old → TidyOn s old new
+pub tidy-call : (s : List ℕ) → Bytes s → (old : List ℕ) {new : List ℕ} → new ≡ afterWriting (tidying (reading s) (length old)) old → TidyOn s old new
 tidy-call s b old {new} n l e h = record {
-  front = ap (take (length (tidy l))) (n ∙ simp (e, le-ltb (length old) (length (tidy l)) h)) ∙ take-at (tidy l) (drop (length (tidy l)) old) (length (tidy l)) refl;
+  front = ap (take (length (tidy l))) (n ∙ rw (e, fits (tidy l) h)) ∙ take-at (tidy l) (drop (length (tidy l)) old) (length (tidy l)) refl;
   keeps = tidy-keeps s b l e;
 }

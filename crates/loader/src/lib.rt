@@ -4,9 +4,10 @@ ghost use lib.ListN.{length};
 ghost use Rattle.lists.specs.Lent.{before, after};
 ghost use Rattle.loadings.specs.Loads.{loadAnswer, loadNumbers, loadOutcome, afterLoading};
 ghost use Rattle.loadings.specs.Refits.{refitAnswer, refitNumbers, refitOutcome, RefitsAs};
+ghost use Rattle.refusals.specs.Writing.{afterWriting};
 ghost use Rattle.sheet.specs.Reading.{reading};
 ghost use Rattle.sheet.specs.Check.{checking, checkNumbers, checkOutcome};
-ghost use Rattle.tidy.specs.Tidying.{tidying, tidyNumbers, tidyOutcome, afterTidying};
+ghost use Rattle.tidy.specs.Tidying.{tidying, tidyAnswer, tidyNumbers, tidyOutcome};
 ghost use Rattle.loader.specs.Calls.{loadMost, loadTarget, refit, oneStep, refitBy};
 ghost use Rattle.loader.specs.Claims.{MostBitsOn, TargetOn, Demand3On, TidyOn};
 use loadings::Loaded;
@@ -120,9 +121,9 @@ pub fn refit_step(s: &[u8], start: &[u8], table: &mut [u8]) -> Refitted
 
 // Writes the tidy form of a sheet.
 pub fn tidy(s: &[u8], out: &mut [u8]) -> Tidied
-    ensures answer { λ r. ⌜ r ≡ tidying (reading (before s)) (length (before out)) ⌝ }
-    ensures numbers { λ r. ⌜ tidyNumbers r ≡ tidyOutcome (reading (before s)) (length (before out)) ⌝ }
-    ensures bytes { λ r. ⌜ after out ≡ afterTidying (reading (before s)) (before out) ⌝ }
+    ensures answer { λ r. ⌜ r ≡ tidyAnswer (tidying (reading (before s)) (length (before out))) ⌝ }
+    ensures numbers { λ r. ⌜ tidyNumbers r ≡ tidyOutcome (tidying (reading (before s)) (length (before out))) ⌝ }
+    ensures bytes { λ r. ⌜ after out ≡ afterWriting (tidying (reading (before s)) (length (before out))) (before out) ⌝ }
     ensures tidy_form { λ r. ⌜ TidyOn (before s) (before out) (after out) ⌝ }
 {
     tidy::tidy(s, out)

@@ -9,7 +9,7 @@ use lib.Seq.{sets}
 use Rattle.lists.proofs.Stores.{from-start}
 use Rattle.sizes.specs.Sizes.{bytesATone}
 use Rattle.bigendian.proofs.Numbers.{length-bytes}
-use Rattle.bigendian.proofs.Stores.{Growing, length-none, length-next}
+use Rattle.bigendian.proofs.Stores.{Growing, length-even}
 use Rattle.steps.specs.Tones.{Tones, Table, _!_}
 use Rattle.line.specs.Arrays.{arrays, powerIn, StandsFor}
 use Rattle.tables.specs.Tables.{toneEntry, entriesBelow, tableBytes}
@@ -24,8 +24,7 @@ pub length-entry : (T : Tones) (t : Table) (i : ℕ) → length (toneEntry T t i
 length-entry T t i = omega (arith, length-bytes 8 (T .power i (t ! i)))
 
 pub length-entries : (T : Tones) (t : Table) (n : ℕ) → length (entriesBelow T t n) ≡ bytesATone * n
-length-entries T t zero = length-none (entries-grow T t)
-length-entries T t (suc n) = omega (arith, length-next (entries-grow T t) n, length-entries T t n, length-entry T t n)
+length-entries T t = length-even (entries-grow T t) bytesATone (length-entry T t)
 
 same-entries : (T U : Tones) (t u : Table) (n : ℕ) → ((i : ℕ) → i < n → toneEntry T t i ≡ toneEntry U u i) → entriesBelow T t n ≡ entriesBelow U u n
 unfolding entriesBelow

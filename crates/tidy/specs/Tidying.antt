@@ -1,33 +1,31 @@
 -- The call that tidies a sheet, for all bytes and all buffers. Document 01: 'Tidying answers its length. Bytes of a longer buffer past
 -- those stay as they were'; refusal 8: 'The lent destination is too small', here 'under the tidy length'.
 -- Assumes nothing.
-use mathlib.Core.Bool.{cond}
-use mathlib.Core.List.{List, [], _∷_, _++_}
+use mathlib.Core.List.{[], _∷_}
 use Prim.Native.Nat.{ℕ}
-use lib.Dec.{ltb}
-use lib.ListN.{length, drop}
-use Rattle.refusals.specs.declared.Refusal.the-variants.{DestinationTooSmall}
+use lib.ListN.{length}
 use Rattle.refusals.specs.Refusals.{Outcome, success, refusal}
+use Rattle.refusals.specs.Writing.{Writing, written, turned-down, ifFits}
 use Rattle.sheet.specs.Reading.{Meaning, accepted, refused}
 use Rattle.tidyform.specs.Tidy.{tidy}
 use Rattle.tidy.specs.declared.Tidied.{Tidied}
 use Rattle.tidy.specs.declared.Tidied.the-variants.{Length, Refused}
 
-abbrev pub tidying : Meaning → (room : ℕ) → Tidied
-tidying (accepted l) room = cond (ltb room (length (tidy l))) (Refused DestinationTooSmall) (Length (length (tidy l)))
-tidying (refused r) room = Refused r
+-- the refusals of the sheet come first; then the tidy form is written, if it fits
+abbrev pub tidying : Meaning → (room : ℕ) → Writing
+tidying (accepted l) room = ifFits room (tidy l)
+tidying (refused r) room = turned-down r
 
--- the buffer afterwards: a refusal changes no byte of it
-abbrev pub afterTidying : Meaning → (old : List ℕ) → List ℕ
-afterTidying (accepted l) old = cond (ltb (length old) (length (tidy l))) old (tidy l ++ drop (length (tidy l)) old)
-afterTidying (refused r) old = old
+-- 'Tidying answers its length': as the enum, and as the paper's numbers
+abbrev pub tidyAnswer : Writing → Tidied
+tidyAnswer (written form) = Length (length form)
+tidyAnswer (turned-down r) = Refused r
 
--- the paper's number, place and answer of each case
+abbrev pub tidyOutcome : Writing → Outcome
+tidyOutcome (written form) = success (length form ∷ [])
+tidyOutcome (turned-down r) = refusal 1 r
+
+-- the paper's number, place and answer of each case of the enum
 abbrev pub tidyNumbers : Tidied → Outcome
 tidyNumbers (Length n) = success (n ∷ [])
 tidyNumbers (Refused r) = refusal 1 r
-
--- what tidying answers in those numbers: the tidy length, or the refusal
-abbrev pub tidyOutcome : Meaning → (room : ℕ) → Outcome
-tidyOutcome (accepted l) room = cond (ltb room (length (tidy l))) (refusal 1 DestinationTooSmall) (success (length (tidy l) ∷ []))
-tidyOutcome (refused r) room = refusal 1 r

@@ -7,9 +7,10 @@ ghost use Prim.Native.Nat.{ℕ, _*_, _≤_};
 ghost use lib.ListN.{length};
 ghost use Rattle.sizes.specs.Sizes.{mostTones, mostWords, gapCommand, toneCommand, silenceCommand};
 ghost use Rattle.lists.specs.Lent.{before, after};
+ghost use Rattle.refusals.specs.Writing.{afterWriting};
 ghost use Rattle.sheet.specs.Reading.{reading};
 ghost use Rattle.tidyform.specs.Tidy.{mapBytes, gapBytes};
-ghost use Rattle.tidy.specs.Tidying.{tidying, tidyNumbers, tidyOutcome, afterTidying};
+ghost use Rattle.tidy.specs.Tidying.{tidying, tidyAnswer, tidyNumbers, tidyOutcome};
 ghost use Rattle.tidy.specs.Copies.{copies};
 use gaps::Gap;
 use refusals::Refusal;
@@ -76,9 +77,9 @@ pub enum Tidied {
 
 // Writes the tidy form of a sheet to the start of a lent buffer.
 pub fn tidy(s: &[u8], out: &mut [u8]) -> Tidied
-    ensures answer { λ r. ⌜ r ≡ tidying (reading (before s)) (length (before out)) ⌝ }
-    ensures numbers { λ r. ⌜ tidyNumbers r ≡ tidyOutcome (reading (before s)) (length (before out)) ⌝ }
-    ensures bytes { λ r. ⌜ after out ≡ afterTidying (reading (before s)) (before out) ⌝ }
+    ensures answer { λ r. ⌜ r ≡ tidyAnswer (tidying (reading (before s)) (length (before out))) ⌝ }
+    ensures numbers { λ r. ⌜ tidyNumbers r ≡ tidyOutcome (tidying (reading (before s)) (length (before out))) ⌝ }
+    ensures bytes { λ r. ⌜ after out ≡ afterWriting (tidying (reading (before s)) (length (before out))) (before out) ⌝ }
 {
     let mut places: [u16; TONES] = [0; TONES];
     let mut maps: [u32; WORDS] = [0; WORDS];

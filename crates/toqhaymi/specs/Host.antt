@@ -1,28 +1,18 @@
 -- What each host call comes to, and what it leaves in the buffer that it writes besides the answers. Document 01, refusal 8: 'in a host call,
 -- an answer buffer under 24 bytes'.
 -- Assumes nothing.
-use mathlib.Core.Bool.{cond}
 use mathlib.Core.List.{List}
 use Prim.Native.Nat.{ℕ}
-use lib.Dec.{ltb}
 use lib.ListN.{length}
-use Rattle.sizes.specs.Sizes.{answerRoom}
 use Rattle.refusals.specs.Refusals.{Outcome}
+use Rattle.refusals.specs.Writing.{afterWriting}
 use Rattle.sheet.specs.Reading.{reading}
 use Rattle.sheet.specs.Check.{checkOutcome}
 use Rattle.loadings.specs.Loads.{Loading, loadOutcome, afterLoading}
 use Rattle.loadings.specs.Refits.{refitOutcome}
-use Rattle.tidy.specs.Tidying.{tidyOutcome, afterTidying}
+use Rattle.tidy.specs.Tidying.{tidying, tidyOutcome}
 use Rattle.loader.specs.Calls.{loadMost, loadTarget, refit, oneStep}
-use Rattle.answers.specs.Answers.{withoutRoom}
-
--- refusal 8 comes after the refusals of the sheet and before any other
-abbrev pub hosted : (sheet answer : List ℕ) → Outcome → Outcome
-hosted sheet answer o = cond (ltb (length answer) answerRoom) (withoutRoom (reading sheet)) o
-
--- without room for the answers no byte of another buffer changes
-abbrev pub hostedBuffer : (answer old after : List ℕ) → List ℕ
-hostedBuffer answer old after = cond (ltb (length answer) answerRoom) old after
+use Rattle.answers.specs.Answers.{hosted, hostedBuffer}
 
 abbrev pub hostCheck : (sheet answer : List ℕ) → Outcome
 hostCheck sheet answer = hosted sheet answer (checkOutcome (reading sheet))
@@ -48,7 +38,7 @@ hostTable on table answer = hostedBuffer answer table (afterLoading (on (length 
 -- ---- the tidying
 
 abbrev pub hostTidy : (sheet tidy answer : List ℕ) → Outcome
-hostTidy sheet tidy answer = hosted sheet answer (tidyOutcome (reading sheet) (length tidy))
+hostTidy sheet tidy answer = hosted sheet answer (tidyOutcome (tidying (reading sheet) (length tidy)))
 
 abbrev pub hostTidied : (sheet tidy answer : List ℕ) → List ℕ
-hostTidied sheet tidy answer = hostedBuffer answer tidy (afterTidying (reading sheet) tidy)
+hostTidied sheet tidy answer = hostedBuffer answer tidy (afterWriting (tidying (reading sheet) (length tidy)) tidy)

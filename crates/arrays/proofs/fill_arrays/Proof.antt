@@ -2,7 +2,8 @@
 use Prim.Native.Nat.{_-_}
 use native.Mathlib.Omega.{arith}
 use borrow.Author.Needs.{needs}
-use Rattle.arrays.proofs.Filling.{FillingOf, header-gap, size-high, gap-in-range, tone-in-range, filled-next, filled-line, filling-starts}
+use Rattle.arrays.proofs.Indexed.{header-gap, size-high, gap-in-range, tone-in-range}
+use Rattle.arrays.proofs.Filling.{FillingOf, filling-starts, filled-next, filled-line}
 use Rattle.arrays.proofs.fill_arrays.Statement.{statement}
 use Rattle.arrays.proofs.fill_arrays.Tie as tie
 
@@ -19,34 +20,34 @@ loop-holds : tie.Need-loop-holds Inv-loop μ-loop
 loop-holds c = filling-starts (λ i. c .before .before .before .before .shared-slice-known .given i .fits) (c .before .before .before .before .before .pre)
 
 cast-tone : tie.Need-cast-tone Inv-loop μ-loop
-cast-tone c = omega (arith, size-high (c .before .before .loop .inv))
+cast-tone c = omega (arith, size-high (c .before .before .loop .inv .index))
 
 mul-steps-at : tie.Need-mul-steps-at Inv-loop μ-loop
-mul-steps-at c = record { fits = omega (arith, size-high (c .before .before .before .loop .inv)) }
+mul-steps-at c = record { fits = omega (arith, size-high (c .before .before .before .loop .inv .index)) }
 
 element-copy-out-steps-at : tie.Need-element-copy-out-steps-at Inv-loop μ-loop
-element-copy-out-steps-at c = omega (arith, size-high (c .before .before .before .loop .inv))
+element-copy-out-steps-at c = omega (arith, size-high (c .before .before .before .loop .inv .index))
 
 steps-at-requires : tie.Need-steps-at-requires Inv-loop μ-loop
 steps-at-requires c κs =
     let l = c .before .before .before .before in
-    let in-range = rw (← l .before .before .before .before .parts .ensures) at (gap-in-range (l .loop .inv)) in
-    (in-range, tone-in-range (l .loop .inv) (c .before .before .if1 .taken))
+    let in-range = rw (← l .before .before .before .before .parts .ensures) at (gap-in-range (l .loop .inv .index)) in
+    (in-range, tone-in-range (l .loop .inv .index) _ (c .before .before .if1 .taken))
 
 element-write-limits : tie.Need-element-write-limits Inv-loop μ-loop
-element-write-limits c = omega (arith, size-high (c .before .before .before .before .before .loop .inv))
+element-write-limits c = omega (arith, size-high (c .before .before .before .before .before .loop .inv .index))
 
 mul-costs : tie.Need-mul-costs Inv-loop μ-loop
-mul-costs c = record { fits = omega (arith, size-high (c .before .before .before .before .before .loop .inv)) }
+mul-costs c = record { fits = omega (arith, size-high (c .before .before .before .before .before .loop .inv .index)) }
 
 element-write-costs : tie.Need-element-write-costs Inv-loop μ-loop
-element-write-costs c = omega (arith, size-high (c .before .before .before .before .before .loop .inv))
+element-write-costs c = omega (arith, size-high (c .before .before .before .before .before .loop .inv .index))
 
 element-write-doublings : tie.Need-element-write-doublings Inv-loop μ-loop
-element-write-doublings c = omega (arith, size-high (c .before .before .before .before .before .loop .inv))
+element-write-doublings c = omega (arith, size-high (c .before .before .before .before .before .loop .inv .index))
 
 add-i : tie.Need-add-i Inv-loop μ-loop
-add-i c = record { fits = omega (arith, size-high (c .before .before .before .before .before .loop .inv)) }
+add-i c = record { fits = omega (arith, size-high (c .before .before .before .before .before .loop .inv .index)) }
 
 loop-less : tie.Need-loop-less Inv-loop μ-loop
 loop-less c = omega arith

@@ -1,6 +1,6 @@
 -- `arrays::steps_at` meets its contract. Assumes nothing.
 use borrow.Author.Needs.{needs}
-use Rattle.arrays.proofs.Filling.{entry-there, entry-none}
+use Rattle.arrays.proofs.Indexed.{entry-there, entry-none}
 use Rattle.arrays.proofs.steps_at.Statement.{statement}
 use Rattle.arrays.proofs.steps_at.Tie as tie
 

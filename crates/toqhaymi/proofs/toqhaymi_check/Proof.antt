@@ -1,6 +1,6 @@
 -- `toqhaymi::toqhaymi_check` meets its contract. Assumes nothing.
 use borrow.Author.Needs.{needs}
-use Rattle.toqhaymi.proofs.Hosted.{short-answers, long-answers}
+use Rattle.answers.proofs.Hosted.{short-answers, long-answers}
 use Rattle.toqhaymi.proofs.toqhaymi_check.Statement.{statement}
 use Rattle.toqhaymi.proofs.toqhaymi_check.Tie as tie
 

@@ -1,6 +1,6 @@
 -- `toqhaymi::toqhaymi_refit_step` meets its contract. Assumes nothing.
 use borrow.Author.Needs.{needs}
-use Rattle.toqhaymi.proofs.Hosted.{short-writes, long-writes}
+use Rattle.answers.proofs.Hosted.{short-writes, long-writes}
 use Rattle.toqhaymi.proofs.toqhaymi_refit_step.Statement.{statement}
 use Rattle.toqhaymi.proofs.toqhaymi_refit_step.Tie as tie
 

@@ -9,10 +9,9 @@ use Rattle.sizes.specs.Sizes.{answerRoom}
 use Rattle.refusals.specs.declared.Refusal.the-variants.{DestinationTooSmall}
 use Rattle.refusals.specs.Refusals.{Outcome}
 use Rattle.sheet.specs.Reading.{Meaning, accepted, refused, reading}
 use Rattle.answers.specs.declared.Reply.{Reply}
-use Rattle.answers.specs.Answers.{code, answered, withoutRoom, Says}
+use Rattle.answers.specs.Answers.{code, answered, withoutRoom, hosted, hostedBuffer, Says}
 use Rattle.answers.proofs.Stored.{Puts, Ends, ends, untouched}
-use Rattle.toqhaymi.specs.Host.{hosted, hostedBuffer}
 
 -- what a call has to show of its result and of the answer buffer
 abbrev pub Answers : (s : List ℕ) → Outcome → (answer after : List ℕ) → (result : ℕ) → Type 0
