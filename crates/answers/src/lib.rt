@@ -34,7 +34,7 @@ fn refused(why: Refusal) -> u64
 }
 
 // A refusal writes no answers, however many the call has.
-fn of_refusal(why: Refusal) -> Reply
+pub fn of_refusal(why: Refusal) -> Reply
     ensures { λ r. ⌜ ((count : ℕ) → Says r (refusal count why)) ⌝ }
 {
     Reply {

@@ -25,7 +25,7 @@ use Rattle.arrays.proofs.Indexed.{SoundIndex, sound-index, steps-found}
 -- the first i tones of a line are in the arrays, and nothing past them
 pub record Filling (l : Line) (limits costs doublings : List ℕ) (i : ℕ) : Type 0 where
   pub inside : i ≤ l .size
-  pub limits-filled : Filled mostTones (λ k. stepsAt l k .limit) limits i
+  pub limits-filled : Filled mostTones (λ k. stepsAt l k .limit .bits) limits i
   pub costs-filled : Filled mostTones (λ k. stepsAt l k .cost) costs i
   pub doublings-filled : Filled mostTones (λ k. stepsAt l k .doublings) doublings i
 
@@ -34,10 +34,10 @@ filling-none l = record { inside = omega arith; limits-filled = filled-none most
 
 -- one tone more
 pub filling-more : {l : Line} {limits costs doublings : List ℕ} {i : ℕ} → Filling l limits costs doublings i → i < l .size → l .size ≤ mostTones
-    → (s : Steps) → s ≡ stepsAt l i → Filling l (set limits i (s .limit)) (set costs i (s .cost)) (set doublings i (s .doublings)) (i + 1)
+    → (s : Steps) → s ≡ stepsAt l i → Filling l (set limits i (s .limit .bits)) (set costs i (s .cost)) (set doublings i (s .doublings)) (i + 1)
 filling-more F more high s e = record {
   inside = omega arith;
-  limits-filled = filled-more (F .limits-filled) _ (omega arith) (ap (λ (x : Steps). x .limit) e);
+  limits-filled = filled-more (F .limits-filled) _ (omega arith) (ap (λ (x : Steps). x .limit .bits) e);
   costs-filled = filled-more (F .costs-filled) _ (omega arith) (ap (λ (x : Steps). x .cost) e);
   doublings-filled = filled-more (F .doublings-filled) _ (omega arith) (ap (λ (x : Steps). x .doublings) e);
 }
@@ -54,7 +54,7 @@ nothing-past l e k h = rw (List·getD-eq-default (l .entries) undescribed {n = k
 pub filling-all : {l : Line} {limits costs doublings : List ℕ} {i : ℕ} → Sound l → Filling l limits costs doublings i → l .size ≤ i → ArraysOf l (arrays limits costs doublings)
 filling-all {l} {i = i} S F all = record {
   sizes = (F .limits-filled .sized, F .costs-filled .sized, F .doublings-filled .sized);
-  limit-at = filled-all (F .limits-filled) (λ k h. ap (λ (x : Steps). x .limit) (past k h));
+  limit-at = filled-all (F .limits-filled) (λ k h. ap (λ (x : Steps). x .limit .bits) (past k h));
   cost-at = filled-all (F .costs-filled) (λ k h. ap (λ (x : Steps). x .cost) (past k h));
   doublings-at = filled-all (F .doublings-filled) (λ k h. ap (λ (x : Steps). x .doublings) (past k h));
 }
@@ -76,7 +76,7 @@ filling-starts b x = record { index = sound-index b x; filling = filling-none (x
 module _ {s places maps limits costs doublings : List ℕ} {h : Header} {i : ℕ} (F : FillingOf s h places maps limits costs doublings i) where
   -- one tone more, as the code finds it at its place
   pub filled-next : i < h .size → (q : Bool) → q ≡ silenced maps i → (x : Steps) → x ≡ entrySteps (parts (h .gap)) (entryAt s (getD places i 0)) q
-      → FillingOf s h places maps (set limits i (x .limit)) (set costs i (x .cost)) (set doublings i (x .doublings)) (i + 1)
+      → FillingOf s h places maps (set limits i (x .limit .bits)) (set costs i (x .cost)) (set doublings i (x .doublings)) (i + 1)
   filled-next l q silent x e = record {
     index = F .index;
     filling = filling-more (F .filling) (omega (arith, size-is (F .index .indexed))) (F .index .sound .in-range .size-high) x (steps-found (F .index) i q silent x e);

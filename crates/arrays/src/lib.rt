@@ -9,6 +9,8 @@ ghost use Rattle.places.specs.Places.{entryAt};
 ghost use Rattle.sheet.specs.Reading.{reading};
 ghost use Rattle.sheet.specs.Index.{Indexed};
 ghost use Rattle.arrays.specs.Tones.{HoldsLineOf, TonesOf};
+use line::Limit;
+use line::SetBy;
 use line::Steps;
 use rows::Header;
 use sheet::Read;
@@ -16,13 +18,16 @@ use sizes::TONES;
 use sizes::WORDS;
 
 // What the runs need of the tone whose command stands at a place: nothing where none does, or where it is silenced.
-fn steps_at(s: &[u8], gap: u16, place: u16, silenced: bool) -> Steps
+pub fn steps_at(s: &[u8], gap: u16, place: u16, silenced: bool) -> Steps
     requires { ⌜ PartsInRange gap ⌝ }
     requires { ⌜ EntryInRange (entryAt (now s) place) ⌝ }
     ensures { λ r. ⌜ r ≡ entrySteps gap (entryAt (before s) place) «silenced» ⌝ }
 {
     let none = Steps {
-        limit: 0,
+        limit: Limit {
+            bits: 0,
+            by: SetBy::Silent,
+        },
         cost: 0,
         doublings: 0,
     };
@@ -59,7 +64,7 @@ fn fill_arrays(
         let tone = i as u8;
         let silenced = silence::is_silenced(maps, tone);
         let steps = steps_at(s, parts, places[i], silenced);
-        limits[i] = steps.limit;
+        limits[i] = steps.limit.bits;
         costs[i] = steps.cost;
         doublings[i] = steps.doublings;
         i += 1;

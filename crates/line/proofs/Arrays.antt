@@ -15,9 +15,10 @@ use Rattle.steps.specs.Tones.{Tones, step, Rising, Table, _!_, noBits, totalBit
 use Rattle.steps.proofs.Sums.{sum-at-most, sum-zero}
 use Rattle.gaps.specs.Gap.{PartsInRange}
 use Rattle.gaps.proofs.Rule.{parts-in-range}
+use Rattle.line.specs.declared.Limit.{Limit}
 use Rattle.line.specs.declared.Steps.{Steps}
 use Rattle.line.specs.Tone.{cost, doublings, limit}
-use Rattle.line.specs.Line.{Entry, undescribed, described, Line, gapOf, entryOf, entryLimit, tones, EntryInRange, LineInRange, noSteps, entrySteps, stepsAt}
+use Rattle.line.specs.Line.{Entry, undescribed, described, Line, gapOf, entryOf, entryLimit, entrySetBy, tones, EntryInRange, LineInRange, noSteps, entrySteps, stepsAt}
 use Rattle.line.specs.Arrays.{Arrays, limitAt, costAt, doublingsAt, stepSize, ArraysInRange, Under, Describes, StandsFor, ArraysOf}
 use Rattle.line.proofs.Ceiling.{cost-range}
 use Rattle.line.proofs.Growth.{doublings-low, shift-at-most}
@@ -28,9 +29,9 @@ use Rattle.line.proofs.Loads.{line-power}
 
 -- the ranges of what the runs need of one tone
 record Small (s : Steps) : Type 0 where
-  cost-low : 0 < s .limit → (0 < s .cost) × (0 < s .doublings)
+  cost-low : 0 < s .limit .bits → (0 < s .cost) × (0 < s .doublings)
   cost-high : s .cost < 2 ^ 24
-  shift-high : s .doublings * s .limit ≤ 15
+  shift-high : s .doublings * s .limit .bits ≤ 15
 
 none-small : Small noSteps
 none-small = record { cost-low = λ h. omega arith; cost-high = omega arith; shift-high = omega arith }
@@ -47,7 +48,8 @@ small g (described t) false G I =
       shift-high = shift-at-most t (doublings t) (limit t w) refl (limit-is t w .at-most) I;
     }
 
-limit-same : (g : ℕ) (e : Entry) (q : Bool) → entryLimit g e q ≡ entrySteps g e q .limit
+-- the limit with what set it
+pub limit-same : (g : ℕ) (e : Entry) (q : Bool) → entrySteps g e q .limit ≡ record { bits = entryLimit g e q; by = entrySetBy g e q }
 limit-same g e true = refl
 limit-same g undescribed false = refl
 limit-same g (described t) false = refl
@@ -67,7 +69,7 @@ module _ (l : Line) (I : LineInRange l) (A : Arrays) (h : ArraysOf l A) where
   pub line-describes : Describes (l .size) A (tones l)
   line-describes = record {
     same-count = refl;
-    same-limit = λ i il. limit-same (gapOf l) (entryOf l i) (silenced (l .maps) i) ∙ sym (h .limit-at i);
+    same-limit = λ i il. sym (h .limit-at i ∙ ap (λ (x : Limit). x .bits) (limit-same (gapOf l) (entryOf l i) (silenced (l .maps) i)));
     same-power = λ i b il bl. rw (h .cost-at i, h .doublings-at i) (line-power l I i b bl);
   }
 

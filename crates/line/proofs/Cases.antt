@@ -16,9 +16,11 @@ use Rattle.steps.proofs.SetBits.{too-many}
 use Rattle.gaps.specs.Gap.{mostTenths, gapOfTenths}
 use Rattle.gaps.proofs.Rule.{right, right-is}
 use Rattle.line.specs.declared.Kind.the-variants.{Pair}
-use Rattle.line.specs.Tone.{cost, kindPower, largest, limit}
-use Rattle.line.specs.Line.{EntryInRange, entryOf, LineInRange}
-use Rattle.line.specs.Cases.{Case, most, granted, refused, never, refits, costs, limits, tenths, tone, sample, sampleTones, Through, CaseHolds, cases}
+use Rattle.line.specs.declared.SetBy.{SetBy}
+use Rattle.line.specs.declared.SetBy.the-variants.{Silent, Cap, Mask}
+use Rattle.line.specs.Tone.{cost, kindPower, largest, limit, setBy}
+use Rattle.line.specs.Line.{EntryInRange, entryOf, LineInRange, setByAt}
+use Rattle.line.specs.Cases.{Case, most, granted, refused, never, refits, costs, limits, limitsBy, sampleLimits, tenths, tone, sample, sampleTones, Through, CaseHolds, cases}
 use Rattle.line.proofs.Loads.{line-rising, no-bits-fit}
 
 -- ---- tests that give a proof where they pass
@@ -61,6 +63,17 @@ sameLoading (some t) (some u) = onward (λ e. cc) (same t u)
 sameLoading none (some u) = none
 sameLoading (some t) none = none
 
+unfoldable sameSetBy : (a b : SetBy) → Option (a ≡ b)
+sameSetBy Silent Silent = some refl
+sameSetBy Cap Cap = some refl
+sameSetBy Mask Mask = some refl
+sameSetBy Silent Cap = none
+sameSetBy Silent Mask = none
+sameSetBy Cap Silent = none
+sameSetBy Cap Mask = none
+sameSetBy Mask Silent = none
+sameSetBy Mask Cap = none
+
 unfoldable through : (rule : Table → Answer) (t : Table) (us : List Table) → Option (Through rule t us)
 through rule t [] = sameAnswer (rule t) finished
 through rule t (u ∷ us) = both (sameAnswer (rule t) (moved u)) (through rule u us)
@@ -95,7 +108,7 @@ is-gap d g p = sym (right-is d g (p .0) (p .1))
 -- ---- the rows
 
 unfoldable row : (r : Case) → Option (CaseHolds r)
-unfolding test true? both onward same sameAnswer sameLoading through
+unfolding test true? both onward same sameAnswer sameLoading sameSetBy through
 row (most budget bits power allBits allPower) =
     both (both (same (mostBits sampleTones budget .table) bits) (same (powers sampleTones bits) power))
     (both (test (ℕ-discrete (totalBits sampleTones bits) allBits)) (test (ℕ-discrete (totalPower sampleTones bits) allPower)))
@@ -106,6 +119,9 @@ row (refits budget start tables) =
     both (through (refitStep sampleTones budget) start tables) (test (ℕ-discrete (refitRun sampleTones budget start .moves) (length tables)))
 row (costs gap noise gain w) = test (ℕ-discrete (cost gap (tone Pair noise gain 0 0)) w)
 row (limits w mask b) = test (ℕ-discrete (limit (tone Pair 1 1 15 mask) w) b)
+row (limitsBy w cap mask b by) =
+    both (test (ℕ-discrete (limit (tone Pair 1 1 cap mask) w) b)) (sameSetBy (setBy (tone Pair 1 1 cap mask) w) by)
+row (sampleLimits i b by) = both (test (ℕ-discrete (sampleTones .limit i) b)) (sameSetBy (setByAt (sample 0) i) by)
 row (tenths d g) = onward (is-gap d g) (both (true? (right d g)) (test (decLe d mostTenths)))
 
 abbrev pub All : List Case → Type 0
@@ -128,5 +144,5 @@ proof (some a) p = a
 proof none p = absurd p
 
 pub starred-cases : All cases
-unfolding cases right test true? both onward same sameAnswer sameLoading through row each passed cost kindPower largest limit step before? sum list against choice earliestFree latestHeld fits? takeIfFits giveUpOrTake refitMove addStep addStepTo refitStep follow run carrying setBits decLt decLe ℕ-discrete
+unfolding cases right test true? both onward same sameAnswer sameLoading sameSetBy through row each passed cost kindPower largest limit setBy step before? sum list against choice earliestFree latestHeld fits? takeIfFits giveUpOrTake refitMove addStep addStepTo refitStep follow run carrying setBits decLt decLe ℕ-discrete
 starred-cases = proof (each cases) tt

@@ -1,14 +1,17 @@
--- The limit of a tone is what document 01 calls it, and the number of bits at which the search stops.
+-- The limit of a tone is what document 01 calls it, and the number of bits at which the search stops; what stops it is what set the limit.
 -- Assumes nothing.
 use mathlib.Core.Path.{_≡_}
 use Prim.Native.Nat.{ℕ, suc, _≤_, _<_}
 use native.Mathlib.Nat.{le-of-suc-le-suc, lt-of-not-le, not-le-of-lt, le-trans}
 use native.Mathlib.Decide.{decLe, le-ind}
 use native.Mathlib.Omega.{arith}
+use borrow.Author.Tests.{lt-ltb, le-leb, lt-leb}
 use Rattle.line.specs.declared.Kind.{Kind}
 use Rattle.line.specs.declared.Kind.the-variants.{Pair, Single}
 use Rattle.line.specs.declared.Tone.{Tone}
-use Rattle.line.specs.Tone.{carried, isSingle, mostCap, InRange, power, limit}
+use Rattle.line.specs.declared.SetBy.the-variants.{Cap, Mask}
+use Rattle.line.specs.declared.Limit.{Limit}
+use Rattle.line.specs.Tone.{carried, isSingle, mostCap, InRange, power, limit, setBy, limitOf}
 use Rattle.line.proofs.Largest.{Largest, largest-is, largest-unique}
 use Rattle.line.proofs.Growth.{power-zero, power-grows}
 
@@ -35,8 +38,8 @@ module _ (t : Tone) (w : ℕ) where
     pub under : power t w b ≤ carried t .mask
 
   -- the mask does not allow one bit more
-  pub mask-stops : {b : ℕ} → Tried b → carried t .mask < power t w (suc b) → b ≡ limit t w
-  mask-stops {b} T over = largest-unique stopped limit-is
+  mask-limit : {b : ℕ} → Tried b → carried t .mask < power t w (suc b) → limit t w ≡ b
+  mask-limit {b} T over = largest-unique limit-is stopped
     where
       stopped : Largest (λ c. power t w c ≤ carried t .mask) (carried t .cap) b
       stopped = record {
@@ -45,7 +48,16 @@ module _ (t : Tone) (w : ℕ) where
         most = λ k l p. le-of-suc-le-suc (lt-of-not-le {n = suc b} {m = k} (λ h. not-le-of-lt over (le-trans (power-mono h) p)));
       }
 
+  pub mask-stops : {b : ℕ} → Tried b → b < carried t .cap → carried t .mask < power t w (suc b) → _≡_ {A = Limit} (record { bits = b; by = Mask }) (limitOf t w)
+  unfolding setBy
+  mask-stops {b} T below over =
+      simp (mask-limit T over, le-leb (suc b) (carried t .cap) below, lt-ltb (carried t .mask) (power t w (suc b)) over)
+
   -- the cap does not
-  pub cap-stops : {b : ℕ} → Tried b → carried t .cap ≤ b → b ≡ limit t w
-  cap-stops {b} T full =
-      largest-unique (record { at-most = T .at-most; passes = T .under; most = λ k l p. omega arith }) limit-is
+  cap-limit : {b : ℕ} → Tried b → carried t .cap ≤ b → limit t w ≡ b
+  cap-limit {b} T full =
+      largest-unique limit-is (record { at-most = T .at-most; passes = T .under; most = λ k l p. omega arith })
+
+  pub cap-stops : {b : ℕ} → Tried b → carried t .cap ≤ b → _≡_ {A = Limit} (record { bits = b; by = Cap }) (limitOf t w)
+  unfolding setBy
+  cap-stops {b} T full = simp (cap-limit T full, lt-leb (suc b) (carried t .cap) (omega arith))

@@ -80,6 +80,6 @@ pub record StandsFor (count : ℕ) (A : Arrays) (bits : List ℕ) (T : Tones) (t
 -- The arrays are those of a line, whole: past its N tones there is nothing.
 pub record ArraysOf (l : Line) (A : Arrays) : Type 0 where
   pub sizes : (length (A .limits) ≡ mostTones) × (length (A .costs) ≡ mostTones) × (length (A .doublings) ≡ mostTones)
-  pub limit-at : (i : ℕ) → limitAt A i ≡ stepsAt l i .limit
+  pub limit-at : (i : ℕ) → limitAt A i ≡ stepsAt l i .limit .bits
   pub cost-at : (i : ℕ) → costAt A i ≡ stepsAt l i .cost
   pub doublings-at : (i : ℕ) → doublingsAt A i ≡ stepsAt l i .doublings

@@ -14,8 +14,10 @@ use Rattle.line.specs.declared.Kind.{Kind}
 use Rattle.line.specs.declared.Kind.the-variants.{Pair, Single}
 use Rattle.line.specs.declared.Numbers.{Numbers}
 use Rattle.line.specs.declared.Tone.{Tone}
-use Rattle.line.specs.Tone.{cost, limit}
-use Rattle.line.specs.Line.{described, Line, tones}
+use Rattle.line.specs.declared.SetBy.{SetBy}
+use Rattle.line.specs.declared.SetBy.the-variants.{Cap, Mask}
+use Rattle.line.specs.Tone.{cost, limit, setBy}
+use Rattle.line.specs.Line.{described, Line, tones, setByAt}
 
 abbrev pub tone : (Numbers → Kind) → (noise gain cap mask : ℕ) → Tone
 tone kind noise gain cap mask = record { kind = kind (record { noise = noise; gain = gain; cap = cap; mask = mask }) }
@@ -48,6 +50,10 @@ pub data Case : Type 0 where
   costs : (gap noise gain w : ℕ) → Case
   -- cost and mask: the limit of a pair tone
   limits : (w mask b : ℕ) → Case
+  -- W3, cost, cap and mask: the limit of a pair tone, and what set it
+  limitsBy : (w cap mask b : ℕ) → SetBy → Case
+  -- W3, a tone of the sample line: its limit, and what set it
+  sampleLimits : (i b : ℕ) → SetBy → Case
   -- W1, tenths of a decibel: the gap
   tenths : (d g : ℕ) → Case
 
@@ -67,6 +73,8 @@ CaseHolds (refits budget start through) =
     Through (refitStep sampleTones budget) start through × (refitRun sampleTones budget start .moves ≡ length through)
 CaseHolds (costs gap noise gain w) = cost gap (tone Pair noise gain 0 0) ≡ w
 CaseHolds (limits w mask b) = limit (tone Pair 1 1 15 mask) w ≡ b
+CaseHolds (limitsBy w cap mask b by) = (limit (tone Pair 1 1 cap mask) w ≡ b) × (setBy (tone Pair 1 1 cap mask) w ≡ by)
+CaseHolds (sampleLimits i b by) = (sampleTones .limit i ≡ b) × (setByAt (sample 0) i ≡ by)
 CaseHolds (tenths d g) = gapOfTenths d ≡ g
 
 unfoldable pub cases : List Case
@@ -86,6 +94,12 @@ cases =
     ∷ limits 3 3 1
     ∷ limits 3 8 1
     ∷ limits 3 9 2
+    ∷ limitsBy 3 0 100 0 Cap
+    ∷ limitsBy 3 15 0 0 Mask
+    ∷ limitsBy 3 2 9 2 Cap
+    ∷ sampleLimits 0 5 Mask
+    ∷ sampleLimits 1 2 Cap
+    ∷ sampleLimits 2 3 Mask
     ∷ tenths 0 256
     ∷ tenths 100 2560
     ∷ tenths 200 25600

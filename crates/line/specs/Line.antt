@@ -11,8 +11,10 @@ use Rattle.steps.specs.Tones.{Tones}
 use Rattle.gaps.specs.declared.Gap.{Gap}
 use Rattle.gaps.specs.Gap.{parts, GapInRange}
 use Rattle.line.specs.declared.Tone.{Tone}
+use Rattle.line.specs.declared.SetBy.{SetBy}
+use Rattle.line.specs.declared.SetBy.the-variants.{Silent}
 use Rattle.line.specs.declared.Steps.{Steps}
-use Rattle.line.specs.Tone.{carried, InRange, cost, power, limit, doublings}
+use Rattle.line.specs.Tone.{carried, InRange, cost, power, limit, setBy, limitOf, doublings}
 
 -- a tone of a line: not described, or described, with what it carries
 pub data Entry : Type 0 where
@@ -46,6 +48,12 @@ entryLimit g e true = 0
 entryLimit g undescribed false = 0
 entryLimit g (described t) false = limit t (cost g t)
 
+-- W3, what set it: 'every other tone is silent'
+abbrev pub entrySetBy : (g : ℕ) → Entry → (silenced : Bool) → SetBy
+entrySetBy g e true = Silent
+entrySetBy g undescribed false = Silent
+entrySetBy g (described t) false = setBy t (cost g t)
+
 -- the power of b bits: 'no bits, no power', and a tone not described carries none
 abbrev pub entryPower : (g : ℕ) → Entry → (b : ℕ) → ℕ
 entryPower g undescribed b = 0
@@ -64,6 +72,10 @@ tones l = record {
   power = λ i b. entryPower (gapOf l) (entryOf l i) b;
 }
 
+-- what set the limit of tone i of a line
+abbrev pub setByAt : Line → (i : ℕ) → SetBy
+setByAt l i = entrySetBy (gapOf l) (entryOf l i) (silenced (l .maps) i)
+
 -- the ranges of what an entry carries
 abbrev pub EntryInRange : Entry → Type 0
 EntryInRange undescribed = Unit {0}
@@ -77,13 +89,13 @@ pub record LineInRange (l : Line) : Type 0 where
   pub budget-high : l .budget ≤ mostPower
   pub entries : (i : ℕ) → i < l .size → EntryInRange (entryOf l i)
 
--- What the code keeps of a tone for the runs, whichever its kind: limit, cost and doublings. A silenced tone, and one not described, has
--- nothing.
+-- What the code finds of a tone, whichever its kind: its limit with what set it, and for the runs cost and doublings. A silenced tone, and
+-- one not described, has nothing.
 abbrev pub noSteps : Steps
-noSteps = record { limit = 0; cost = 0; doublings = 0 }
+noSteps = record { limit = record { bits = 0; by = Silent }; cost = 0; doublings = 0 }
 
 abbrev pub stepsOf : (g : ℕ) → Tone → Steps
-stepsOf g t = record { limit = limit t (cost g t); cost = cost g t; doublings = doublings t }
+stepsOf g t = record { limit = limitOf t (cost g t); cost = cost g t; doublings = doublings t }
 
 abbrev pub entrySteps : (g : ℕ) → Entry → (silenced : Bool) → Steps
 entrySteps g e true = noSteps

@@ -1,15 +1,19 @@
--- One tone. Document 01, 'Cost, power and limit of a tone'.
+-- One tone. Document 01, 'Cost, power and limit of a tone'; document 02, W3.
 -- Assumes nothing.
-use mathlib.Core.Bool.{Bool, true, false}
+use mathlib.Core.Bool.{Bool, true, false, _&&_, cond}
 use mathlib.Core.Logic.{ite}
 use Prim.Native.Nat.{ℕ, zero, suc, _+_, _-_, _*_, _/_, _^_, _≤_}
 use native.Mathlib.Decide.{decLe}
+use lib.Dec.{leb, ltb}
 use Rattle.sizes.specs.Sizes.{pairCap, singleCap, mostPower}
 use Rattle.gaps.specs.Gap.{gapUnit}
 use Rattle.line.specs.declared.Numbers.{Numbers}
 use Rattle.line.specs.declared.Kind.{Kind}
 use Rattle.line.specs.declared.Kind.the-variants.{Pair, Single}
 use Rattle.line.specs.declared.Tone.{Tone}
+use Rattle.line.specs.declared.SetBy.{SetBy}
+use Rattle.line.specs.declared.SetBy.the-variants.{Cap, Mask}
+use Rattle.line.specs.declared.Limit.{Limit}
 
 -- 'A described tone carries its kind, and the kind carries what belongs to it.'
 abbrev pub carriedBy : Kind → Numbers
@@ -83,3 +87,14 @@ largest test (suc n) = ite (test (suc n)) (suc n) (largest test n)
 -- 'The limit of a tone is the largest b that is at most the cap and has power at most the mask.'
 unfoldable pub limit : Tone → (w : ℕ) → ℕ
 limit t w = largest (λ b. decLe (power t w b) (carried t .mask)) (carried t .cap)
+
+-- W3: 'On a described, unsilenced tone it is mask exactly if one bit more would still be within the cap but over the mask, and cap
+-- otherwise.'
+unfoldable pub setBy : Tone → (w : ℕ) → SetBy
+setBy t w =
+    let oneMore = suc (limit t w) in
+    cond (leb oneMore (carried t .cap) && ltb (carried t .mask) (power t w oneMore)) Mask Cap
+
+-- 'A tone's limit now comes with what set it.'
+abbrev pub limitOf : Tone → (w : ℕ) → Limit
+limitOf t w = record { bits = limit t w; by = setBy t w }

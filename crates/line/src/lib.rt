@@ -1,10 +1,10 @@
-// One tone of a line: document 01, 'Cost, power and limit of a tone'.
+// One tone of a line: document 01, 'Cost, power and limit of a tone'; document 02, W3.
 ghost use mathlib.Core.Path.{_≡_};
 ghost use Prim.Native.Nat.{_*_, _^_, _≤_, _<_};
 ghost use Rattle.gaps.specs.Gap.{PartsInRange};
 ghost use Rattle.line.specs.Line.{stepsOf};
 ghost use Rattle.line.specs.Arrays.{powerIn};
-ghost use Rattle.line.specs.Tone.{mostCap, carried, doublings, InRange, Cost, cost, power, limit};
+ghost use Rattle.line.specs.Tone.{mostCap, carried, doublings, InRange, Cost, cost, power, limitOf};
 use gaps::GAP_UNIT;
 use sizes::PAIR_CAP;
 use sizes::SINGLE_CAP;
@@ -27,10 +27,23 @@ pub struct Tone {
     pub kind: Kind,
 }
 
+// What set a tone's limit. A tone that is not described, or is silenced, is silent.
+pub enum SetBy {
+    Silent,
+    Cap,
+    Mask,
+}
+
+// A tone's limit comes with what set it.
+pub struct Limit {
+    pub bits: u8,
+    pub by: SetBy,
+}
+
 // What the runs need of a tone, whichever its kind: its limit, and its powers. The power of b bits is the cost, doubled `doublings` × b
 // times, less the cost.
 pub struct Steps {
-    pub limit: u8,
+    pub limit: Limit,
     pub cost: u32,
     pub doublings: u8,
 }
@@ -94,21 +107,27 @@ fn power(tone: Tone, cost: u32, bits: u8) -> u64
     power_at(cost, doublings(tone), bits)
 }
 
-// The limit of a tone, by trying one bit more until the cap or the mask stops it.
-fn limit(tone: Tone, cost: u32) -> u8
+// The limit of a tone, by trying one bit more until the cap or the mask stops it: that one set it.
+fn limit_of(tone: Tone, cost: u32) -> Limit
     requires { ⌜ Cost cost × InRange tone ⌝ }
-    ensures { λ r. ⌜ r ≡ limit tone cost ⌝ }
+    ensures { λ r. ⌜ r ≡ limitOf tone cost ⌝ }
 {
     let n = carried(tone);
     let cap = n.cap;
     let mut bits: u8 = 0;
     while bits < cap {
         if n.mask < power(tone, cost, bits + 1) {
-            return bits;
+            return Limit {
+                bits: bits,
+                by: SetBy::Mask,
+            };
         }
         bits += 1;
     }
-    bits
+    Limit {
+        bits: bits,
+        by: SetBy::Cap,
+    }
 }
 
 // What the runs need of a tone that is described and not silenced.
@@ -119,7 +138,7 @@ pub fn steps_of(gap: u16, tone: Tone) -> Steps
 {
     let w = cost(gap, tone);
     Steps {
-        limit: limit(tone, w),
+        limit: limit_of(tone, w),
         cost: w,
         doublings: doublings(tone),
     }

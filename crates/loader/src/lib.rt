@@ -1,4 +1,4 @@
-// The library: every public call, on bytes. Document 01.
+// The library: every public call, on bytes. Document 01; document 02, W3.
 ghost use mathlib.Core.Path.{_≡_};
 ghost use lib.ListN.{length};
 ghost use Rattle.lists.specs.Lent.{before, after};
@@ -7,9 +7,11 @@ ghost use Rattle.loadings.specs.Refits.{refitAnswer, refitNumbers, refitOutcome
 ghost use Rattle.refusals.specs.Writing.{afterWriting};
 ghost use Rattle.sheet.specs.Reading.{reading};
 ghost use Rattle.sheet.specs.Check.{checking, checkNumbers, checkOutcome};
+ghost use Rattle.limits.specs.Limits.{limiting, limitAnswer, limitNumbers, limitOutcome};
 ghost use Rattle.tidy.specs.Tidying.{tidying, tidyAnswer, tidyNumbers, tidyOutcome};
 ghost use Rattle.loader.specs.Calls.{loadMost, loadTarget, refit, oneStep, refitBy};
 ghost use Rattle.loader.specs.Claims.{MostBitsOn, TargetOn, Demand3On, TidyOn};
+use limits::Limited;
 use loadings::Loaded;
 use loadings::Refitted;
 use sheet::Checked;
@@ -117,6 +119,15 @@ pub fn refit_step(s: &[u8], start: &[u8], table: &mut [u8]) -> Refitted
     ensures bytes { λ r. ⌜ after table ≡ afterLoading (oneStep (before s) (before start) (length (before table))) (before table) ⌝ }
 {
     refit_up_to(s, start, 1, table)
+}
+
+// Writes the limit of each tone of a sheet, and what set it.
+pub fn limits(s: &[u8], out: &mut [u8]) -> Limited
+    ensures answer { λ r. ⌜ r ≡ limitAnswer (limiting (reading (before s)) (length (before out))) ⌝ }
+    ensures numbers { λ r. ⌜ limitNumbers r ≡ limitOutcome (limiting (reading (before s)) (length (before out))) ⌝ }
+    ensures bytes { λ r. ⌜ after out ≡ afterWriting (limiting (reading (before s)) (length (before out))) (before out) ⌝ }
+{
+    limits::limits(s, out)
 }
 
 // Writes the tidy form of a sheet.

@@ -63,6 +63,10 @@ endCommand = 1
 abbrev pub bytesATone : ℕ
 bytesATone = 9
 
+-- W3, the limits of a sheet: the limit, and what set it, a byte each
+abbrev pub limitBytesATone : ℕ
+limitBytesATone = 2
+
 -- 'an answer buffer of at least 24 bytes'
 abbrev pub answerRoom : ℕ
 answerRoom = 24

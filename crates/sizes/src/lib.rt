@@ -40,5 +40,8 @@ pub const END_COMMAND: usize = 1;
 // The bytes of a tone in a written table: its bits, and its power in 8 bytes.
 pub const TONE_BYTES: usize = 9;
 
+// The bytes of a tone among the limits that a call writes: its limit, and what set it.
+pub const LIMIT_BYTES: usize = 2;
+
 // The least room for the answers of a host call, in bytes.
 pub const ANSWER_BYTES: usize = 24;

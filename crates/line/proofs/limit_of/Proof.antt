@@ -1,4 +1,4 @@
--- `line::limit` meets its contract. Between the turns the bits tried so far are within the cap and the mask. Assumes nothing.
+-- `line::limit_of` meets its contract. Between the turns the bits tried so far are within the cap and the mask. Assumes nothing.
 use mathlib.Core.Path.{ap}
 use native.Mathlib.Numerals.{add-one}
 use native.Mathlib.Omega.{arith}
@@ -8,8 +8,8 @@ use Rattle.line.specs.Tone.{carried, power}
 use Rattle.line.specs.declared.Numbers.{Numbers}
 use Rattle.line.proofs.Growth.{power-zero}
 use Rattle.line.proofs.Limits.{Tried, cap-high, mask-stops, cap-stops}
-use Rattle.line.proofs.limit.Statement.{statement}
-use Rattle.line.proofs.limit.Tie as tie
+use Rattle.line.proofs.limit_of.Statement.{statement}
+use Rattle.line.proofs.limit_of.Tie as tie
 
 abbrev Inv-loop : tie.InvT-loop
 Inv-loop tone cost n cap bits₀ bits = Tried tone cost bits
@@ -34,7 +34,7 @@ returns : tie.Need-returns Inv-loop μ-loop
 returns c =
     let a = c .before .before .before .before in
     let e = a .before .carried .ensures in
-    mask-stops (a .before .before .args .tone) (a .before .before .args .cost) (a .loop .inv) (omega (arith, c .if1 .taken, ap (λ (n : Numbers). n .mask) e, c .before .before .power .ensures, ap (power (a .before .before .args .tone) (a .before .before .args .cost)) (add-one (a .loop .bits))))
+    mask-stops (a .before .before .args .tone) (a .before .before .args .cost) (a .loop .inv) (omega (arith, below (c .before .before .before))) (omega (arith, c .if1 .taken, ap (λ (n : Numbers). n .mask) e, c .before .before .power .ensures, ap (power (a .before .before .args .tone) (a .before .before .args .cost)) (add-one (a .loop .bits))))
 
 add-bits : tie.Need-add-bits Inv-loop μ-loop
 add-bits c = add-power (c .before .before .before)
@@ -53,8 +53,8 @@ returns-2 c =
     let a = c .before in
     cap-stops (a .before .before .args .tone) (a .before .before .args .cost) (a .loop .inv) (omega (arith, c .loop-test .left, ap (λ (n : Numbers). n .cap) (a .before .carried .ensures)))
 
-pub limit-spec : {M : Type 1} → statement M
-limit-spec =
+pub limit-of-spec : {M : Type 1} → statement M
+limit-of-spec =
     tie.close
     (tie.spec
     Inv-loop

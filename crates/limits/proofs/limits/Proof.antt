@@ -1,0 +1,55 @@
+-- `limits::limits` meets its contract. Assumes nothing.
+use mathlib.Core.Path.{sym, _∙_}
+use native.Mathlib.Omega.{arith}
+use Rattle.sheet.specs.Index.{Indexed}
+use Rattle.sheet.proofs.Uses.{indexed, refused-is, size-is}
+use Rattle.limits.proofs.Outcomes.{turned-down, too-small, written}
+use borrow.Author.Needs.{needs}
+use Rattle.limits.proofs.limits.Statement.{statement}
+use Rattle.limits.proofs.limits.Tie as tie
+
+abbrev start : tie.After-read2 → tie.Start
+start c = c .before .before .before .before .before .before .before
+
+-- the arrays index the line that the sheet means
+index : (c : tie.After-read2) → (let r = c .before .before .read-sheet in Indexed (start c .args .s .now) (c .read2 .given .0 .0) (r .last .1 .0) (r .last .1 .1 .0))
+index c = indexed (c .before .before .read-sheet .ensures) (c .read2 .given .1)
+
+returns : tie.Need-returns
+returns c =
+    let k = c .before .before .before in
+    let x = index k in
+    too-small (x .means) (start k .args .out .now) (sym (size-is x)) (c .if1 .taken)
+
+put-limits-requires : tie.Need-put-limits-requires
+put-limits-requires c κs =
+    let i = c .before .before .before in
+    (index (i .before .before .before), omega (arith, i .if1 .left))
+
+returns-2 : tie.Need-returns-2
+returns-2 c =
+    let k = c .before .before .before in
+    turned-down _ (k .before .before .before .before .before .args .out .now) (refused-is (k .read-sheet .ensures) (c .before .read .given .1))
+
+returns-3 : tie.Need-returns-3
+returns-3 c =
+    let i = c .before .before .before .before .before .before in
+    let k = i .before .before .before in
+    let x = index k in
+    let w = written (x .means) (start k .args .out .now) (sym (size-is x)) (i .if1 .left) in
+    (w .0, (w .1 .0, c .before .before .put-limits .ensures (x .line) (x .means) ∙ w .1 .1))
+
+pub limits-spec : {M : Type 1} → statement M
+limits-spec =
+    tie.close
+    (tie.spec
+    (λ c κs. search needs)
+    (λ c. search needs)
+    (λ c. search needs)
+    (λ c. search needs)
+    (λ c. search needs)
+    returns
+    put-limits-requires
+    returns-2
+    (λ c. search needs)
+    returns-3)

@@ -1,0 +1,88 @@
+-- `limits::put_limits` meets its contract. Between the turns the limits of the tones below i are written. Assumes nothing.
+use Prim.Native.Nat.{_-_}
+use native.Mathlib.Omega.{arith}
+use borrow.Author.Needs.{needs}
+use Rattle.arrays.proofs.Indexed.{header-gap, size-high, gap-in-range, tone-in-range}
+use Rattle.limits.proofs.Bytes.{Writing, writing-starts, written-limit, written-limits}
+use Rattle.limits.proofs.put_limits.Statement.{statement}
+use Rattle.limits.proofs.put_limits.Tie as tie
+
+abbrev Inv-loop : tie.InvT-loop
+Inv-loop out₀ s header places maps parts i₀ out i = Writing s header places maps out₀ out i
+
+abbrev μ-loop : tie.MeasureT-loop
+μ-loop out₀ s header places maps parts i₀ out i = header .size - i
+
+parts-requires : tie.Need-parts-requires Inv-loop μ-loop
+parts-requires c κs = header-gap (λ i. c .shared-slice-known .given i .fits) (c .before .before .pre .0)
+
+loop-holds : tie.Need-loop-holds Inv-loop μ-loop
+loop-holds c =
+    let s = c .before .before .before in
+    writing-starts (λ i. c .before .shared-slice-known .given i .fits) (s .pre .0) (s .args .out .now)
+
+cast-tone : tie.Need-cast-tone Inv-loop μ-loop
+cast-tone c = omega (arith, size-high (c .before .before .loop .inv .index))
+
+mul-steps-at : tie.Need-mul-steps-at Inv-loop μ-loop
+mul-steps-at c = record { fits = omega (arith, size-high (c .before .before .before .loop .inv .index)) }
+
+element-copy-out-steps-at : tie.Need-element-copy-out-steps-at Inv-loop μ-loop
+element-copy-out-steps-at c = omega (arith, size-high (c .before .before .before .loop .inv .index))
+
+steps-at-requires : tie.Need-steps-at-requires Inv-loop μ-loop
+steps-at-requires c κs =
+    let l = c .before .before .before .before in
+    let in-range = rw (← l .before .parts .ensures) at (gap-in-range (l .loop .inv .index)) in
+    (in-range, tone-in-range (l .loop .inv .index) _ (c .before .before .if1 .taken))
+
+mul-put-limit : tie.Need-mul-put-limit Inv-loop μ-loop
+mul-put-limit c = record { fits = omega (arith, size-high (c .before .before .before .before .before .before .before .loop .inv .index)) }
+
+put-limit-requires : tie.Need-put-limit-requires Inv-loop μ-loop
+put-limit-requires c κs =
+    let t = c .before .before .before .before .before in
+    let l = t .before .before in
+    omega (arith, t .if1 .taken, l .loop .inv .entries .same-length, l .before .before .before .before .pre .1)
+
+add-i : tie.Need-add-i Inv-loop μ-loop
+add-i c = record { fits = omega (arith, size-high (c .before .before .before .before .before .before .before .before .before .before .loop .inv .index)) }
+
+loop-less : tie.Need-loop-less Inv-loop μ-loop
+loop-less c = omega (arith, c .before .before .before .before .before .before .before .before .if1 .taken)
+
+loop-again : tie.Need-loop-again Inv-loop μ-loop
+loop-again c =
+    let p = c .before .before in
+    let x = p .before .before .before in
+    let t = x .before .before .before in
+    let l = t .before .before in
+    written-limit (l .loop .inv) (t .if1 .taken) _ (x .before .before .is-silenced .ensures) _ (rw (l .before .parts .ensures) at (x .steps-at .ensures)) (p .put-limit .ensures)
+
+same-length : tie.Need-same-length Inv-loop μ-loop
+same-length c = c .before .before .loop .inv .entries .same-length
+
+returns : tie.Need-returns Inv-loop μ-loop
+returns c = written-limits (c .before .before .loop .inv) (c .if1 .left)
+
+pub put-limits-spec : {M : Type 1} → statement M
+put-limits-spec =
+    tie.close
+    (tie.spec
+    Inv-loop
+    μ-loop
+    parts-requires
+    loop-holds
+    (λ c. search needs)
+    cast-tone
+    (λ c κs. search needs)
+    mul-steps-at
+    element-copy-out-steps-at
+    steps-at-requires
+    mul-put-limit
+    put-limit-requires
+    add-i
+    loop-less
+    loop-again
+    same-length
+    returns)

@@ -1,0 +1,56 @@
+-- The call that writes the limits of a sheet's tones, for all bytes and all buffers. Document 02, W3: 'A tone's limit now comes with what
+-- set it: silent, cap, or mask.' The call writes 2 bytes a tone, from tone 0 up: the limit, then the number of what set it.
+-- Assumes nothing.
+use mathlib.Core.Bool.{cond}
+use mathlib.Core.List.{List, [], _∷_, _++_}
+use Prim.Native.Nat.{ℕ, zero, suc}
+use lib.Dec.{eqb}
+use Rattle.line.specs.declared.SetBy.{SetBy}
+use Rattle.line.specs.declared.SetBy.the-variants.{Silent, Cap, Mask}
+use Rattle.line.specs.Line.{Line, tones, setByAt}
+use Rattle.refusals.specs.Refusals.{Outcome, success, refusal}
+use Rattle.refusals.specs.Writing.{Writing, written, turned-down, ifFits}
+use Rattle.sheet.specs.Reading.{Meaning, accepted, refused}
+use Rattle.limits.specs.declared.Limited.{Limited}
+use Rattle.limits.specs.declared.Limited.the-variants.{Written, Refused}
+
+-- the number of each case: 0 silent, 1 cap, 2 mask
+abbrev pub setByNumber : SetBy → ℕ
+setByNumber Silent = 0
+setByNumber Cap = 1
+setByNumber Mask = 2
+
+-- and the case of a number: where it is none of these, mask
+abbrev pub setByOf : (number : ℕ) → SetBy
+setByOf number = cond (eqb number 0) Silent (cond (eqb number 1) Cap Mask)
+
+-- the 2 bytes of tone i
+abbrev pub limitEntry : Line → (i : ℕ) → List ℕ
+limitEntry l i = tones l .limit i ∷ setByNumber (setByAt l i) ∷ []
+
+-- those of the tones below n
+unfoldable pub limitsBelow : Line → (n : ℕ) → List ℕ
+limitsBelow l zero = []
+limitsBelow l (suc n) = limitsBelow l n ++ limitEntry l n
+
+abbrev pub limitBytes : Line → List ℕ
+limitBytes l = limitsBelow l (l .size)
+
+-- The refusals of the sheet come first; then the limits are written, if they fit.
+abbrev pub limiting : Meaning → (room : ℕ) → Writing
+limiting (accepted l) room = ifFits room (limitBytes l)
+limiting (refused r) room = turned-down r
+
+-- The call answers nothing but that the limits are written: as the enum, and as the paper's numbers.
+abbrev pub limitAnswer : Writing → Limited
+limitAnswer (written bytes) = Written
+limitAnswer (turned-down r) = Refused r
+
+abbrev pub limitOutcome : Writing → Outcome
+limitOutcome (written bytes) = success []
+limitOutcome (turned-down r) = refusal 0 r
+
+-- the paper's number, place and answers of each case of the enum
+abbrev pub limitNumbers : Limited → Outcome
+limitNumbers Written = success []
+limitNumbers (Refused r) = refusal 0 r

@@ -1,0 +1,39 @@
+// Calls of the library that the C host does not have, as C entries for the tests alone: in no header, with the host's conventions.
+// Document 02, W7: 'the host keeps only document 01's calls'.
+ghost use mathlib.Core.Path.{_≡_};
+ghost use Rattle.lists.specs.Lent.{before, after};
+ghost use Rattle.limits.specs.Limits.{limitNumbers};
+ghost use Rattle.answers.specs.Answers.{code, answered, Says};
+ghost use Rattle.outside.specs.Outside.{outsideLimits, outsideLimited};
+use answers::Reply;
+use limits::Limited;
+use sizes::ANSWER_BYTES;
+
+// The reply of the limits: they have no answers.
+fn of_limits(limited: Limited) -> Reply
+    ensures { λ r. ⌜ Says r (limitNumbers limited) ⌝ }
+{
+    match limited {
+        Limited::Refused(why) => answers::of_refusal(why),
+        Limited::Written => Reply {
+            returned: 0,
+            count: 0,
+            first: 0,
+            second: 0,
+            third: 0,
+        },
+    }
+}
+
+#[no_mangle]
+pub extern "C" fn outside_limits(sheet: &[u8], out: &mut [u8], answer: &mut [u8]) -> u64
+    ensures returned { λ r. ⌜ r ≡ code (outsideLimits (before sheet) (before out) (before answer)) ⌝ }
+    ensures bytes { λ r. ⌜ after out ≡ outsideLimited (before sheet) (before out) (before answer) ⌝ }
+    ensures answers { λ r. ⌜ after answer ≡ answered (outsideLimits (before sheet) (before out) (before answer)) (before answer) ⌝ }
+{
+    if answer.len() < ANSWER_BYTES {
+        return answers::without_room(sheet);
+    }
+    let limited = loader::limits(sheet, out);
+    answers::put(of_limits(limited), answer)
+}
