@@ -1,14 +1,14 @@
--- `bench::print_table` meets its contract: every place that it reads is in the table. Assumes nothing.
+-- `bench::print_table` meets its contract: every place that it reads is in the table, or in the limits. Assumes nothing.
 use Prim.Native.Nat.{_-_, _≤_}
 use borrow.Author.Needs.{needs}
 use Rattle.bench.proofs.print_table.Statement.{statement}
 use Rattle.bench.proofs.print_table.Tie as tie
 
 abbrev Inv-loop : tie.InvT-loop
-Inv-loop table size tone₀ tone = tone ≤ size
+Inv-loop table limits size tone₀ t5 tone = tone ≤ size
 
 abbrev μ-loop : tie.MeasureT-loop
-μ-loop table size tone₀ tone = size - tone
+μ-loop table limits size tone₀ t5 tone = size - tone
 
 pub print-table-spec : {M : Type 1} → statement M
 print-table-spec =
@@ -23,6 +23,13 @@ print-table-spec =
     (λ c. search needs)
     (λ c. search needs)
     (λ c κs. search needs)
+    (λ c κs. search needs)
+    (λ c. search needs)
+    (λ c. search needs)
+    (λ c. search needs)
+    (λ c κs. search needs)
+    (λ c κs. search needs)
+    (λ c. search needs)
     (λ c κs. search needs)
     (λ c. search needs)
     (λ c. search needs)
