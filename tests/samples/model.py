@@ -1,6 +1,6 @@
 #!/usr/bin/env python3
-"""A model of document 01 and of document 02's request W1, written from the papers and the readings of docs/DECISIONS.md: reading
-a sheet with its refusals, check, tidy, the loadings and the re-fit. Plain and slow.
+"""A model of document 01 and of document 02's requests W1 and W3, written from the papers and the readings of docs/DECISIONS.md:
+reading a sheet with its refusals, check, tidy, the limits, the loadings and the re-fit. Plain and slow.
 
   model.py < stdin > stdout      what the test program prints for a text of calls
   model.py --selftest            the paper's own statements
@@ -160,6 +160,10 @@ def tidy(sheet, room):
 
 # Loading.
 
+SILENT, CAP, MASK = 0, 1, 2
+WORDS = ["silent", "cap", "mask"]
+
+
 class Loading:
     """A line's tones as the runs see them. Steps are pairs (size, tone), which Python orders as the paper does: by size, then by
     lower tone number."""
@@ -186,6 +190,15 @@ class Loading:
             return 0
         _, _, _, cap, mask = self.line.tones[tone]
         return max(b for b in range(cap + 1) if self.power(tone, b) <= mask)
+
+    def set_by(self, tone):
+        """What set the limit: "mask exactly if one bit more would still be within the cap but over the mask, and cap otherwise; every
+        other tone is silent"."""
+        if tone not in self.line.tones or tone in self.line.silenced:
+            return SILENT
+        _, _, _, cap, mask = self.line.tones[tone]
+        one_more = self.limit(tone) + 1
+        return MASK if one_more <= cap and self.power(tone, one_more) > mask else CAP
 
     def total(self, table):
         return sum(self.powers[tone][bits] for tone, bits in enumerate(table))
@@ -298,6 +311,14 @@ def call(word, argument, sheet, room):
     return answers, loading.written(table)
 
 
+def limits(sheet, room):
+    """2 bytes a tone: the limit, then what set it; refusal 8 under 2 × N bytes."""
+    loading = loading_of(sheet)
+    if room < 2 * loading.line.size:
+        raise Refused(8, 0)
+    return b"".join(bytes([loading.limits[tone], loading.set_by(tone)]) for tone in loading.tones)
+
+
 def hold(loading, word, argument, table, moves, sheet):
     """What the paper says of a table beyond how it is found."""
     assert all(bits <= limit for bits, limit in zip(table, loading.limits))
@@ -396,6 +417,26 @@ def report_call(word, argument, sheet):
     return lines
 
 
+def report_limits(sheet):
+    """The lines that the test program prints for the limits of a sheet."""
+    try:
+        size = read(sheet).size
+    except Refused:
+        size = 0
+    try:
+        out = limits(sheet, ROOM)
+        tones = ["%d:%s" % (out[i], WORDS[out[i + 1]]) for i in range(0, len(out), 2)]
+        lines = [" ".join(["limits"] + tones), "exact " + ("same" if limits(sheet, 2 * size) == out else "differs")]
+    except Refused as r:
+        lines = ["refused %d %d untouched" % r.args]
+    try:
+        limits(sheet, max(2 * size - 1, 0))
+        lines.append("short 0 0 touched")
+    except Refused as r:
+        lines.append("short %d %d untouched" % r.args)
+    return lines
+
+
 def expected(text):
     lines = []
     for row in text.split("\n"):
@@ -403,6 +444,8 @@ def expected(text):
             lines.append(row)
         elif call_of(row):
             lines += report_call(*call_of(row))
+        elif row.startswith("limits /"):
+            lines += report_limits(bytes_of(row[len("limits /"):]))
         elif row:
             lines += report(bytes_of(row))
     return "".join(l + "\n" for l in lines)
@@ -489,6 +532,25 @@ def loading_selftest():
         assert loading.refit(table)[0] == loading.adding() and loading.refit(table)[1] <= sum(loading.limits)
 
 
+def limits_selftest():
+    # "the sample's lines at budget 39 end in mask, cap, mask".
+    assert limits(SAMPLE, 6) == bytes([5, MASK, 2, CAP, 3, MASK]) and refused_limits(SAMPLE, 5) == (8, 0)
+    # A cap of 0; a mask of 0 under a cap above 0; one bit more would be over the cap and over the mask; over the cap alone.
+    edges = [one_tone(4, 256, 3, 1, cap, mask) for cap, mask in ((0, 100), (15, 0), (2, 9), (2, 100))]
+    assert [(edge.limits[0], edge.set_by(0)) for edge in edges] == [(0, CAP), (0, MASK), (2, CAP), (2, CAP)]
+    # "every other tone is silent": one silenced, one not described.
+    silenced = SAMPLE[:2] + b"\4" + SAMPLE[3:60] + bytes.fromhex("060000000002") + SAMPLE[60:]
+    assert limits(silenced, 8) == bytes([5, MASK, 0, SILENT, 3, MASK, 0, SILENT])
+    assert refused_limits(SAMPLE[:60], 0) == (2, 60)
+
+
+def refused_limits(*words):
+    try:
+        limits(*words)
+    except Refused as r:
+        return r.args
+
+
 def tenths_selftest():
     # "d = 0 gives 256, d = 100 gives 2,560 and d = 200 gives 25,600"; "a table of 241 entries", gaps that 02 could give.
     assert [gap_of(tenths) for tenths in (0, 100, 200)] == [256, 2560, 25600]
@@ -507,6 +569,7 @@ def tenths_selftest():
 
 def selftest():
     loading_selftest()
+    limits_selftest()
     tenths_selftest()
     assert len(SAMPLE) == 61
     # "Gap 256; tone 0 pair, noise 3, cap 15; tone 1 pair, noise 5, cap 2; tone 2 single, noise 1, cap 7; gains 1,

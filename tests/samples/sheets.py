@@ -6,7 +6,7 @@
 import random, sys
 import model
 
-ROWS, SHEETS, LOADINGS = [], 0, 0
+ROWS, SHEETS, LOADINGS, LIMITS = [], 0, 0, 0
 
 
 def group(text):
@@ -74,6 +74,19 @@ def loading(word, argument, text, sheet, answer):
     assert model.call_of(row) == (word, argument, bytes_of(sheet)[:model.ROOM]), row
     ROWS.append(row)
     return got
+
+
+def limited(sheet, answer=None):
+    """`answer` is (number, place) of a refusal, the limit of each tone and what set it, or None where none is noted."""
+    global LIMITS
+    LIMITS += 1
+    try:
+        out = model.limits(bytes_of(sheet), model.ROOM)
+        got = " ".join("%d:%s" % (bits, model.WORDS[by]) for bits, by in zip(out[::2], out[1::2]))
+    except model.Refused as r:
+        got = r.args
+    assert answer is None or got == answer, (spelled(sheet)[:200], got, answer)
+    ROWS.append("limits / " + spelled(sheet))
 
 
 def most(sheet, answer=None):
@@ -731,10 +744,47 @@ for _ in range(12):
     step(start, sheet)
     target(max(0, sum(bits) - dice.randint(-1, 3)), sheet)
 
+group("W3: the limits of the sample line and what set them, whatever the budget")
+for b in (39, 0, TOP):
+    limited(sample(b), "5:mask 2:cap 3:mask")
+group("W3: cap 0; mask 0 under a cap above 0; both 0; each kind")
+for kind, largest in [(4, 15), (5, 7)]:
+    limited(line(1, TOP, tone(kind, 0, 1, 1, 0, TOP)), "0:cap")
+    limited(line(1, TOP, tone(kind, 0, 1, 1, largest, 0)), "0:mask")
+    limited(line(1, TOP, tone(kind, 0, 1, 1, 0, 0)), "0:cap")
+group("W3: the limit is the cap, and one bit more would break the mask too, or not; masks round the power of the cap's bits; each kind")
+for kind, cap, power in [(4, 2, 9), (5, 2, 45)]:
+    for mask, answer in [(power - 1, "1:mask"), (power, "2:cap"), (power + 1, "2:cap"), (TOP, "2:cap")]:
+        limited(line(1, TOP, tone(kind, 0, 3, 1, cap, mask)), answer)
+for kind, largest in [(4, 15), (5, 7)]:
+    limited(line(1, TOP, tone(kind, 0, 1, 1, largest, TOP)), "%d:cap" % largest)
+    limited(line(1, TOP, tone(kind, 0, 65535, 1, largest, TOP)), "%d:cap" % largest)
+group("W3: silent: not described; silenced before and after its description; silenced and not described; with cap 0, with mask 0")
+limited(line(3, 39), "0:silent 0:silent 0:silent")
+limited(line(3, 39, pair(1)), "0:silent 5:cap 0:silent")
+limited(line(4, 39, silence(0, 1), pair(0), pair(1), silence(0, 10)), "0:silent 0:silent 0:silent 0:silent")
+limited(line(3, 39, pair(0, 3, 1, 0, 100), pair(1, 3, 1, 5, 0), pair(2, 3, 1, 5, 0), silence(0, 3)), "0:silent 0:silent 0:mask")
+group("W3: the gap counts: the sample line in tenths of a decibel, 0 and 1 and 240")
+for d, answer in [(0, "5:mask 2:cap 3:mask"), (1, "4:mask 2:cap 2:mask"), (240, "0:mask 0:mask 0:mask")]:
+    limited(in_tenths(d, sample(39)), answer)
+group("W3: refusals of the sheet, each number")
+limited(head() + NOTHING * 681, (1, 0))
+limited(sample(39)[:60], (2, 60))
+limited("-", (2, 0))
+limited(b"\x02", (3, 0))
+limited(line(3, 39, pair(0, 0)), (4, 17))
+limited(line(3, 39, pair(3)), (5, 16))
+limited(line(3, 39, pair(0), single(0)), (6, 31))
+limited(sample(39) + END, (7, 61))
+group("W3: 256 tones: all alike, by turns, none described")
+limited(wide(TOP, ALL_PAIRS))
+limited(wide(TOP, BY_TURNS))
+limited(line(256, 39, pair(255)), "0:silent " * 255 + "5:cap")
+
 text = "".join(r + "\n" for r in ROWS)
 # The test program's buffer for its text (`text_buffer` of crates/samplebuffers).
 assert len(text) <= 131072, len(text)
 for name, what in [("stdin", text), ("stdout", model.expected(text))]:
     with open(sys.argv[1] + "/" + name, "w") as f:
         f.write(what)
-print(SHEETS, "sheets,", LOADINGS, "loadings,", len(text), "bytes")
+print(SHEETS, "sheets,", LOADINGS, "loadings,", LIMITS, "limits,", len(text), "bytes")

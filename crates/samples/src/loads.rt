@@ -1,15 +1,20 @@
-// The loadings and the re-fits of the test program: each call made, and what it answers printed.
+// The loadings, the re-fits and the limits of the test program: each call made, and what it answers printed.
 //
 //   loaded 6 39              bits and power; of a re-fit `refitted`, and the moves besides
 //   table 3:21 2:15 1:3      bits:power of each tone
 //   exact same               into 9 bytes a tone: the same, and past them the first buffer is untouched
 //   short 8 0 untouched      into one byte less: refusal and place
 //
-// On a refusal the first three lines are one, `refused`, its number and place, and `untouched`.
+// On a refusal the lines before `short` are one, `refused`, its number and place, and `untouched`. Of the limits, 2 bytes a tone, the
+// first two lines are one:
+//
+//   limits 5:mask 2:cap 3:mask   limit:what set it of each tone
 use crate::printing::print;
 use crate::printing::print_number;
 use crate::printing::print_pair;
 use crate::printing::print_touched;
+use limits::Limited;
+use line::SetBy;
 use loadings::Loaded;
 use loadings::Refitted;
 use refusals::Refusal;
@@ -21,21 +26,23 @@ use samplebuffers::same;
 use samplebuffers::wide;
 use samplebuffers::within;
 use sheet::Checked;
+use sizes::LIMIT_BYTES;
 use sizes::TONE_BYTES;
 
 // A table of more bytes than this, those of 32 tones, is printed as a sum.
 const PRINTED_BYTES: usize = 32 * TONE_BYTES;
 
-// A loading or a re-fit.
+// A loading, a re-fit or the limits.
 pub(crate) enum Call {
     Most,
     Target(u32),
     Refit,
     Step,
+    Limits,
 }
 
-// What a loading or a re-fit answers: a refusal's number and place, or number 0 and the totals. A
-// loading has no moves.
+// What a call answers: a refusal's number and place, or number 0 and the totals. A loading has no
+// moves, and the limits have no totals.
 struct Totals {
     number: u32,
     place: u32,
@@ -44,13 +51,24 @@ struct Totals {
     moves: u32,
 }
 
-fn refused(why: Refusal) -> Totals {
+fn numbered(number: u32, place: u32) -> Totals {
     Totals {
-        number: refusal_number(why),
-        place: refusal_place(why),
+        number: number,
+        place: place,
         bits: 0,
         power: 0,
         moves: 0,
+    }
+}
+
+fn refused(why: Refusal) -> Totals {
+    numbered(refusal_number(why), refusal_place(why))
+}
+
+fn limited(answer: Limited) -> Totals {
+    match answer {
+        Limited::Written => numbered(0, 0),
+        Limited::Refused(why) => refused(why),
     }
 }
 
@@ -80,33 +98,70 @@ fn refitted(answer: Refitted) -> Totals {
     }
 }
 
-// Makes a call. A loading takes no start.
+// Makes a call. A loading takes no start, and the limits take none.
 fn made(call: Call, sheet: &[u8], start: &[u8], table: &mut [u8]) -> Totals {
     match call {
         Call::Most => loaded(loader::load_most(sheet, table)),
         Call::Target(bits) => loaded(loader::load_target(sheet, bits, table)),
         Call::Refit => refitted(loader::refit(sheet, start, table)),
         Call::Step => refitted(loader::refit_step(sheet, start, table)),
+        Call::Limits => limited(loader::limits(sheet, table)),
     }
 }
 
-// How many bytes the table of a sheet takes; 0 for a sheet that is refused.
-fn table_bytes(sheet: &[u8]) -> usize {
+// How many tones a sheet has; 0 for a sheet that is refused.
+fn tones_of(sheet: &[u8]) -> u16 {
     match loader::check(sheet) {
-        Checked::Counts(n, _, _) => TONE_BYTES * n as usize,
+        Checked::Counts(n, _, _) => n,
         Checked::Refused(_) => 0,
     }
 }
 
-// Prints what a call answers that is not refused.
-fn print_totals(call: Call, t: Totals) {
+// How many bytes a call writes for so many tones.
+fn written_bytes(call: Call, tones: u16) -> usize {
     match call {
-        Call::Most | Call::Target(_) => print_pair(b"loaded ", t.bits as u64, t.power),
+        Call::Limits => LIMIT_BYTES * tones as usize,
+        _ => TONE_BYTES * tones as usize,
+    }
+}
+
+// Prints what a call answers and writes that is not refused.
+fn print_written(call: Call, t: Totals, written: &[u8]) {
+    match call {
+        Call::Limits => print_limits(written),
+        Call::Most | Call::Target(_) => {
+            print_pair(b"loaded ", t.bits as u64, t.power);
+            print(b"\n");
+            print_table(written);
+        }
         Call::Refit | Call::Step => {
             print_pair(b"refitted ", t.bits as u64, t.power);
             print(b" ");
             print_number(t.moves as u64);
+            print(b"\n");
+            print_table(written);
         }
+    }
+}
+
+// The word for what set a limit, after a colon.
+fn print_set_by(by: SetBy) {
+    match by {
+        SetBy::Silent => print(b":silent"),
+        SetBy::Cap => print(b":cap"),
+        SetBy::Mask => print(b":mask"),
+    }
+}
+
+// Prints limits, 2 bytes a tone, as limit:what set it with a blank before each.
+fn print_limits(limits: &[u8]) {
+    print(b"limits");
+    let mut at = 0;
+    while LIMIT_BYTES <= limits.len() - at {
+        print(b" ");
+        print_number(wide(limits[at]));
+        print_set_by(limits::set_by(limits[at + 1]));
+        at += LIMIT_BYTES;
     }
     print(b"\n");
 }
@@ -177,16 +232,15 @@ fn show_short(call: Call, sheet: &[u8], start: &[u8], bytes: usize) {
     print_touched(&table);
 }
 
-// Prints what a call answers: the totals and the table, or the refusal; then what it does with just
-// enough room, and with too little.
+// Prints what a call answers: the totals and the table, or the limits, or the refusal; then what it
+// does with just enough room, and with too little.
 pub(crate) fn show(call: Call, sheet: &[u8], start: &[u8]) {
-    let bytes = table_bytes(sheet);
+    let bytes = written_bytes(call, tones_of(sheet));
     let mut table = filled();
     let t = made(call, sheet, start, &mut table);
     if t.number == 0 {
         let n = within(bytes, &table);
-        print_totals(call, t);
-        print_table(&table[..n]);
+        print_written(call, t, &table[..n]);
         show_exact(call, sheet, start, table, t, bytes);
     } else {
         print_pair(b"refused ", t.number as u64, t.place as u64);

@@ -5,6 +5,7 @@
 //   target N / SHEET       the loading of N bits
 //   refit START / SHEET    the re-fit of a starting table
 //   step START / SHEET     one step of it
+//   limits / SHEET         the limit of each tone, and what set it
 //
 // SHEET and START are bytes as crate sampletext reads them, and `-` where there are none. An empty
 // line is skipped, and a line that starts with `#` is written back.
@@ -126,6 +127,7 @@ fn show_call(first: u8, text: &[u8]) {
         b'm' => Call::Most,
         b't' => Call::Target(sampletext::number_after(text, blank)),
         b'r' => Call::Refit,
+        b'l' => Call::Limits,
         _ => Call::Step,
     };
     loads::show(call, &sheet[..n], &start[..m]);
@@ -141,7 +143,7 @@ fn show_line(text: &[u8]) {
             print(text);
             print(b"\n");
         }
-        b'm' | b't' | b'r' | b's' => show_call(first, text),
+        b'm' | b't' | b'r' | b's' | b'l' => show_call(first, text),
         _ => {
             let mut sheet = filled();
             let n = read_bytes(text, &mut sheet);
