@@ -1,9 +1,10 @@
-//! The six calls of the archive, each buffer lent with canary bytes round it.
+//! The calls of the two archives, each buffer lent with canary bytes round it.
 
 use crate::inputs::Input;
 use crate::paper;
 
-mod archive {
+/// libtoqhaymi.a: the six calls of the C host.
+mod host {
     extern "C" {
         pub fn toqhaymi_check(
             sheet: *const u8,
@@ -59,6 +60,20 @@ mod archive {
     }
 }
 
+/// liboutside.a: the library's call that the C host does not have, by its conventions.
+mod outside {
+    extern "C" {
+        pub fn outside_limits(
+            sheet: *const u8,
+            sheet_length: usize,
+            limits: *mut u8,
+            limits_length: usize,
+            answer: *mut u8,
+            answer_length: usize,
+        ) -> u64;
+    }
+}
+
 /// A buffer as C sees it.
 pub type Buffer = (*mut u8, usize);
 
@@ -70,11 +85,19 @@ pub enum Call {
     Refit,
     RefitStep,
     Tidy,
+    Limits,
 }
 
 impl Call {
-    pub const ALL: [Call; 6] =
-        [Call::Check, Call::LoadMost, Call::LoadTarget, Call::Refit, Call::RefitStep, Call::Tidy];
+    pub const ALL: [Call; 7] = [
+        Call::Check,
+        Call::LoadMost,
+        Call::LoadTarget,
+        Call::Refit,
+        Call::RefitStep,
+        Call::Tidy,
+        Call::Limits,
+    ];
 
     pub fn name(self) -> &'static str {
         match self {
@@ -84,13 +107,25 @@ impl Call {
             Call::Refit => "refit",
             Call::RefitStep => "refit_step",
             Call::Tidy => "tidy",
+            Call::Limits => "limits",
         }
+    }
+
+    /// Whether the C host has the call.
+    pub fn is_of_host(self) -> bool {
+        self != Call::Limits
+    }
+
+    /// The name of the call's function in its archive.
+    pub fn entry_name(self) -> String {
+        let archive = if self.is_of_host() { "toqhaymi" } else { "outside" };
+        format!("{archive}_{}", self.name())
     }
 
     /// The refusals that the call can give.
     pub fn refusals(self) -> &'static [u64] {
         match self {
-            Call::Check | Call::LoadMost | Call::Tidy => &[1, 2, 3, 4, 5, 6, 7, 8],
+            Call::Check | Call::LoadMost | Call::Tidy | Call::Limits => &[1, 2, 3, 4, 5, 6, 7, 8],
             Call::LoadTarget => &[1, 2, 3, 4, 5, 6, 7, 8, 11],
             Call::Refit | Call::RefitStep => &[1, 2, 3, 4, 5, 6, 7, 8, 9, 10],
         }
@@ -101,7 +136,17 @@ impl Call {
         match self {
             Call::Check => &[],
             Call::Tidy => &input.tidy,
+            Call::Limits => &input.limits,
             _ => &input.table,
+        }
+    }
+
+    /// What the destination is called.
+    pub fn destination_name(self) -> &'static str {
+        match self {
+            Call::Tidy => "tidy sheet",
+            Call::Limits => "limits",
+            _ => "table",
         }
     }
 
@@ -114,7 +159,7 @@ impl Call {
         table: Buffer,
         answer: Buffer,
     ) -> u64 {
-        use archive::*;
+        use {host::*, outside::*};
         let ((sheet, sheet_length), (start, start_length)) = (sheet, start);
         let ((table, table_length), (answer, answer_length)) = (table, answer);
         match self {
@@ -154,12 +199,15 @@ impl Call {
             Call::Tidy => {
                 toqhaymi_tidy(sheet, sheet_length, table, table_length, answer, answer_length)
             }
+            Call::Limits => {
+                outside_limits(sheet, sheet_length, table, table_length, answer, answer_length)
+            }
         }
     }
 
     /// The archive's function and its arguments, as words in order.
     pub fn entry(self, buffers: [Buffer; 4], target: u32) -> (*const (), [usize; 8]) {
-        use archive::*;
+        use {host::*, outside::*};
         let [sheet, start, table, answer] = buffers.map(|(bytes, length)| [bytes as usize, length]);
         let target = [target as usize];
         let (function, given) = match self {
@@ -173,6 +221,7 @@ impl Call {
                 (toqhaymi_refit_step as *const (), [sheet, start, table, answer].concat())
             }
             Call::Tidy => (toqhaymi_tidy as *const (), [sheet, table, answer].concat()),
+            Call::Limits => (outside_limits as *const (), [sheet, table, answer].concat()),
         };
         let mut words = [0; 8];
         words[..given.len()].copy_from_slice(&given);
@@ -195,6 +244,7 @@ impl Call {
             Call::Refit => paper::refit(sheet, start, destination, answer),
             Call::RefitStep => paper::refit_step(sheet, start, destination, answer),
             Call::Tidy => paper::tidy(sheet, destination, answer),
+            Call::Limits => paper::limits(sheet, destination, answer),
         }
     }
 }
@@ -266,8 +316,7 @@ pub fn ours(call: Call, input: &Input) -> Result<Outcome, String> {
     };
     sheet.only_read("sheet", &input.sheet)?;
     start.only_read("starting table", &input.start)?;
-    let destination =
-        destination.returned(if call == Call::Tidy { "tidy sheet" } else { "table" })?;
+    let destination = destination.returned(call.destination_name())?;
     Ok(Outcome { returned, destination, answer: answer.returned("answer")? })
 }
 

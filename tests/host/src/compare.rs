@@ -2,7 +2,7 @@
 
 use crate::calls::{self, Call, Outcome};
 use crate::inputs::{input, Input, SAMPLE_INPUTS};
-use crate::totals;
+use crate::{limits, totals};
 
 /// One input of one call.
 #[derive(Clone, Copy, PartialEq, Eq)]
@@ -14,7 +14,7 @@ pub struct Which {
 
 /// How often each call gave each number, 0 to 11.
 #[derive(Default)]
-struct Tally([[u64; 12]; 6]);
+struct Tally([[u64; 12]; Call::ALL.len()]);
 
 impl Tally {
     fn count(&mut self, call: Call, returned: u64) {
@@ -45,7 +45,7 @@ pub fn compare(seed: u64, count: u64, mut tell: impl FnMut(Which)) -> Result<(),
                 if calls::ours(call, &input).as_ref() != Ok(&paper) {
                     return Err(report(Which { call, seed, index }));
                 }
-                totals::judge(call, &input, &paper).map_err(|fault| {
+                judge(call, &input, &paper).map_err(|fault| {
                     let which = Which { call, seed, index };
                     format!("{}{fault}\n{}", given(call, &input), again(which))
                 })?;
@@ -57,6 +57,16 @@ pub fn compare(seed: u64, count: u64, mut tell: impl FnMut(Which)) -> Result<(),
             Err(format!("no input led {} to {number}: too few inputs", call.name()))
         }
         None => Ok(()),
+    }
+}
+
+/// An outcome on which both agree, against itself and against our other calls.
+fn judge(call: Call, input: &Input, outcome: &Outcome) -> Result<(), String> {
+    match call {
+        _ if outcome.returned != 0 => Ok(()),
+        Call::Check | Call::Tidy => Ok(()),
+        Call::Limits => limits::judge(input, outcome),
+        _ => totals::judge(call, input, outcome),
     }
 }
 
@@ -72,7 +82,7 @@ pub fn one(which: Which) -> Result<String, String> {
     println!("{}", given(which.call, &input).trim_end());
     match calls::ours(which.call, &input) {
         Ok(ours) if ours == calls::papers(which.call, &input) => {
-            totals::judge(which.call, &input, &ours)?;
+            judge(which.call, &input, &ours)?;
             Ok(format!("both:  {}", shown(&ours)))
         }
         ours => Err(judged(which, &input, ours)),
@@ -91,7 +101,7 @@ pub fn hex(bytes: &[u8]) -> String {
 }
 
 fn given(call: Call, input: &Input) -> String {
-    let mut text = format!("toqhaymi_{}\n", call.name());
+    let mut text = format!("{}\n", call.entry_name());
     text += &format!("  sheet, {} bytes: {}\n", input.sheet.len(), hex(&input.sheet));
     if matches!(call, Call::Refit | Call::RefitStep) {
         text += &format!("  start, {} bytes: {}\n", input.start.len(), hex(&input.start));
@@ -99,11 +109,9 @@ fn given(call: Call, input: &Input) -> String {
     if call == Call::LoadTarget {
         text += &format!("  target {}\n", input.target);
     }
-    let destination = call.destination(input).len();
-    match call {
-        Call::Check => {}
-        Call::Tidy => text += &format!("  tidy of {destination} bytes\n"),
-        _ => text += &format!("  table of {destination} bytes\n"),
+    if call != Call::Check {
+        let length = call.destination(input).len();
+        text += &format!("  {} of {length} bytes\n", call.destination_name());
     }
     text + &format!("  answer of {} bytes\n", input.answer.len())
 }
@@ -123,7 +131,7 @@ fn again(which: Which) -> String {
 fn judged(which: Which, input: &Input, ours: Result<Outcome, String>) -> String {
     let paper = calls::papers(which.call, input);
     let ours = match ours {
-        Ok(ours) => format!("{}{}", shown(&ours), difference(&ours, &paper)),
+        Ok(ours) => format!("{}{}", shown(&ours), difference(which.call, &ours, &paper)),
         Err(fault) => format!("{fault}\n"),
     };
     format!("ours:  {ours}paper: {}{}", shown(&paper), again(which))
@@ -143,14 +151,14 @@ pub fn report_end(which: Which, end: String) -> String {
     given(which.call, &input) + &judged
 }
 
-fn difference(ours: &Outcome, paper: &Outcome) -> String {
+fn difference(call: Call, ours: &Outcome, paper: &Outcome) -> String {
     let first = |ours: &[u8], paper: &[u8]| ours.iter().zip(paper).position(|(a, b)| a != b);
     let mut text = String::new();
     if ours.returned != paper.returned {
         text += &format!("  returned {}, not {}\n", ours.returned, paper.returned);
     }
     for (name, ours, paper) in [
-        ("table or tidy sheet", &ours.destination, &paper.destination),
+        (call.destination_name(), &ours.destination, &paper.destination),
         ("answer", &ours.answer, &paper.answer),
     ] {
         if let Some(at) = first(ours, paper) {

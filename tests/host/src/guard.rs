@@ -76,7 +76,8 @@ pub fn compare(seed: u64, count: u64) -> Result<String, String> {
     let end = compare::last(seed, count);
     match follow(&mut child).map_err(told)? {
         (Some(which), Some(status)) if status.success() && which == end => {
-            Ok(format!("{inputs} inputs, {} calls, every refusal of each call met", 6 * inputs))
+            let calls = Call::ALL.len() as u64 * inputs;
+            Ok(format!("{inputs} inputs, {calls} calls, every refusal of each call met"))
         }
         (_, Some(status)) if status.code() == Some(SAID) => Err(String::new()),
         (Some(which), status) => {

@@ -6,7 +6,7 @@
 use crate::damage::{damaged, WAYS};
 use crate::paper::line::{read, Line};
 use crate::paper::run::Running;
-use crate::paper::{tidy_length, ANSWER_BYTES, BYTES_A_TONE};
+use crate::paper::{tidy_length, ANSWER_BYTES, BYTES_A_LIMIT, BYTES_A_TONE};
 use crate::random::Random;
 use crate::sheets::{commands, IN_TENTHS, SAMPLE};
 
@@ -19,6 +19,7 @@ pub struct Input {
     pub table: Vec<u8>,
     pub tidy: Vec<u8>,
     pub answer: Vec<u8>,
+    pub limits: Vec<u8>,
 }
 
 /// How many inputs a sheet of seed 0 makes: each byte at each value, each cut, each
@@ -73,6 +74,7 @@ fn sample_input(random: &mut Random, index: usize) -> Input {
         table: random.bytes(256 * BYTES_A_TONE),
         tidy: random.bytes(64),
         answer: random.bytes(ANSWER_BYTES + 8),
+        limits: random.bytes(256 * BYTES_A_LIMIT),
     }
 }
 
@@ -104,6 +106,7 @@ fn input_for_refused(random: &mut Random, sheet: Vec<u8>) -> Input {
         table: lent(random, BYTES_A_TONE * tones),
         tidy: lent(random, sheet.len().min(5000)),
         answer: lent(random, ANSWER_BYTES),
+        limits: lent(random, BYTES_A_LIMIT * tones),
         sheet,
     }
 }
@@ -118,6 +121,7 @@ fn input_for(random: &mut Random, sheet: Vec<u8>, line: &Line) -> Input {
         table: lent(random, BYTES_A_TONE * line.tones),
         tidy: lent(random, tidy_length(line)),
         answer: lent(random, ANSWER_BYTES),
+        limits: lent(random, BYTES_A_LIMIT * line.tones),
         sheet,
     }
 }

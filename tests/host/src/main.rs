@@ -6,6 +6,7 @@ mod damage;
 mod documents;
 mod guard;
 mod inputs;
+mod limits;
 mod named;
 mod paper;
 mod program;
@@ -29,7 +30,7 @@ fn number(word: &str) -> Result<u64, String> {
 
 fn call(word: &str) -> Result<Call, String> {
     let call = Call::ALL.into_iter().find(|call| call.name() == word);
-    call.ok_or_else(|| format!("'{word}' is not one of the six calls"))
+    call.ok_or_else(|| format!("'{word}' is not one of the seven calls"))
 }
 
 fn run(words: &[&str]) -> Result<String, String> {

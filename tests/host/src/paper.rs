@@ -1,7 +1,7 @@
-//! An independent loader, written from document 01 and document 02's request W1:
-//! the six calls as the C host makes them, and what the bench program prints. It
-//! keeps each tone's next free and last held step; each move scans all of them for
-//! the earliest free and the latest held.
+//! An independent loader, written from document 01 and document 02's requests W1 and
+//! W3: the six calls as the C host makes them, the limits by its conventions, and
+//! what the bench program prints. It keeps each tone's next free and last held step;
+//! each move scans all of them for the earliest free and the latest held.
 
 pub mod gap;
 pub mod line;
@@ -14,6 +14,7 @@ use line::{read, Kind, Line, Tone};
 use run::Running;
 
 pub const BYTES_A_TONE: usize = 9;
+pub const BYTES_A_LIMIT: usize = 2;
 pub const ANSWER_BYTES: usize = 24;
 
 /// Why a call was turned down, and where.
@@ -35,7 +36,7 @@ fn returned(outcome: Result<(), Refusal>) -> u64 {
     }
 }
 
-/// Refusal 8: a table or a tidy sheet needs `bytes`, the answers need 24.
+/// Refusal 8: a table, a tidy sheet or the limits need `bytes`, the answers need 24.
 fn room(destination: &[u8], bytes: usize, answer: &[u8]) -> Result<(), Refusal> {
     if destination.len() < bytes || answer.len() < ANSWER_BYTES {
         return refuse(8, 0);
@@ -182,6 +183,19 @@ pub fn tidy(sheet: &[u8], tidy: &mut [u8], answer: &mut [u8]) -> u64 {
     })())
 }
 
+/// The limit of each tone, then the number of what set it. There are no answers.
+pub fn limits(sheet: &[u8], limits: &mut [u8], answer: &mut [u8]) -> u64 {
+    returned((|| {
+        let line = read(sheet)?;
+        room(limits, BYTES_A_LIMIT * line.tones, answer)?;
+        for (tone, place) in limits.chunks_exact_mut(BYTES_A_LIMIT).take(line.tones).enumerate() {
+            let (limit, set_by) = line.limit(tone);
+            place.copy_from_slice(&[limit, set_by as u8]);
+        }
+        Ok(())
+    })())
+}
+
 /// What the bench program prints for a sheet.
 pub fn printed(sheet: &[u8]) -> String {
     let line = match read(sheet) {
@@ -192,7 +206,8 @@ pub fn printed(sheet: &[u8]) -> String {
     while run.add() {}
     let mut text = String::new();
     for tone in 0..line.tones {
-        text += &format!("{tone} {} {}\n", run.bits[tone], run.power(tone));
+        let (_, set_by) = line.limit(tone);
+        text += &format!("{tone} {} {} {}\n", run.bits[tone], run.power(tone), set_by.word());
     }
     text + &format!("total {} {}\n", run.total_bits, run.total_power)
 }

@@ -281,4 +281,16 @@ mod tests {
         let in_tenths = (0..500).filter(|&index| gap(index) == 8).count();
         assert!((150..250).contains(&in_tenths), "{in_tenths} of 500 sheets have 08");
     }
+
+    /// Of their tones, each of the three that set a limit has a good share.
+    #[test]
+    fn limits_set_by_each() {
+        let mut tones = [0; 3];
+        for index in 0..500 {
+            let line = read(&commands(&mut Random::new(1, index)).concat()).expect("a valid sheet");
+            (0..line.tones).for_each(|tone| tones[line.limit(tone).1 as usize] += 1);
+        }
+        let all: usize = tones.iter().sum();
+        assert!(tones.iter().all(|count| 8 * count > all), "silent, cap, mask: {tones:?}");
+    }
 }

@@ -1,10 +1,12 @@
-//! Our time and the independent loader's, side by side; and what a step's time goes to.
+//! Our time and the independent loader's, side by side; and what the time of a step, and
+//! that of the limits, goes to.
 
 use crate::calls::{self, Buffer, Call};
 use crate::inputs::Input;
 use crate::paper::gap::Gap;
 use crate::paper::line::{read, Line, LARGEST_POWER};
 use crate::paper::run::Running;
+use crate::paper::{ANSWER_BYTES, BYTES_A_LIMIT, BYTES_A_TONE};
 use crate::sheets::{bare, silence, tone};
 use crate::stack;
 use std::hint::black_box;
@@ -84,9 +86,10 @@ impl Shape {
         Input {
             start: self.start(&line),
             target: run.total_bits as u32 / 2,
-            table: vec![0; 9 * tones],
+            table: vec![0; BYTES_A_TONE * tones],
             tidy: vec![0; sheet.len()],
-            answer: vec![0; 24],
+            answer: vec![0; ANSWER_BYTES],
+            limits: vec![0; BYTES_A_LIMIT * tones],
             sheet,
         }
     }
@@ -155,6 +158,16 @@ fn parts_of_a_step(tones: usize) -> String {
     format!("{tones:>5}{read:>10.3}{before:>26.3}{after:>14.3}{step:>10.3}\n")
 }
 
+/// What the time of the limits of all tones goes to, told by two of our calls on one
+/// line: a check reads the sheet; the limits also works them out and writes them.
+fn parts_of_the_limits(tones: usize) -> String {
+    let input = SHAPES[0].input(tones);
+    let time = |call| best(call, &input).0;
+    let (read, all) = (time(Call::Check), time(Call::Limits));
+    let limits = all - read;
+    format!("{tones:>5}{read:>10.3}{limits:>10.3}{all:>10.3}\n")
+}
+
 /// One row for each line and call; times in microseconds, stack in bytes.
 pub fn table() -> String {
     let mut table =
@@ -172,15 +185,21 @@ pub fn table() -> String {
     for tones in TONES {
         table += &parts_of_a_step(tones);
     }
+    table += "\nours us of the limits of all tones, bound\n";
+    table += "tones   reading    limits    in all\n";
+    for tones in TONES {
+        table += &parts_of_the_limits(tones);
+    }
     table
 }
 
-/// The stack of every call on every line, against the most that the header states.
+/// The stack of every call of the host on every line, against the most that its header
+/// states.
 pub fn stack(most: u64) -> Result<String, String> {
     let mut largest = 0;
     for (tones, shape) in TONES.into_iter().flat_map(|tones| SHAPES.map(|shape| (tones, shape))) {
         let input = shape.input(tones);
-        for call in Call::ALL {
+        for call in Call::ALL.into_iter().filter(|call| call.is_of_host()) {
             let mut lent = lent(call, &input);
             // SAFETY: four vectors, each with its own length.
             let used = unsafe { stack::used(call, buffers(&mut lent), input.target) };

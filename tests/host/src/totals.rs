@@ -17,9 +17,14 @@ fn answered(outcome: &Outcome, i: usize) -> u64 {
     number(&outcome.answer[8 * i..8 * i + 8])
 }
 
+/// N of an accepted sheet.
+pub fn tones(input: &Input) -> usize {
+    number(&input.sheet[1..3]) as usize
+}
+
 /// The entries of a written table: one byte of bits, eight of power.
-fn entries(input: &Input, outcome: &Outcome) -> impl Iterator<Item = Vec<u8>> {
-    let tones = number(&input.sheet[1..3]) as usize;
+pub fn entries(input: &Input, outcome: &Outcome) -> impl Iterator<Item = Vec<u8>> {
+    let tones = tones(input);
     let table = outcome.destination[..BYTES_A_TONE * tones].to_vec();
     (0..tones).map(move |tone| table[BYTES_A_TONE * tone..][..BYTES_A_TONE].to_vec())
 }
@@ -54,11 +59,8 @@ fn walk(input: &Input, refit: &Outcome) -> Result<(), String> {
     Ok(())
 }
 
-/// What an outcome of a call on an input says of totals.
+/// What an accepted loading or re-fit of an input says of totals.
 pub fn judge(call: Call, input: &Input, outcome: &Outcome) -> Result<(), String> {
-    if outcome.returned != 0 || matches!(call, Call::Check | Call::Tidy) {
-        return Ok(());
-    }
     if !adds_up(input, outcome) {
         return Err("the table does not add up to the totals".to_string());
     }

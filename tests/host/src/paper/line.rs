@@ -57,6 +57,34 @@ pub fn limit(tone: &Tone, cost: u64) -> u8 {
     bits
 }
 
+/// What set a tone's limit; each with its number in the limits that are written.
+#[derive(Clone, Copy, Debug, PartialEq, Eq)]
+pub enum SetBy {
+    Silent = 0,
+    Cap = 1,
+    Mask = 2,
+}
+
+impl SetBy {
+    pub fn word(self) -> &'static str {
+        match self {
+            SetBy::Silent => "silent",
+            SetBy::Cap => "cap",
+            SetBy::Mask => "mask",
+        }
+    }
+}
+
+/// On a described, unsilenced tone "it is mask exactly if one bit more would still
+/// be within the cap but over the mask, and cap otherwise".
+pub fn set_by(tone: &Tone, cost: u64, limit: u8) -> SetBy {
+    let more = limit + 1;
+    match more <= tone.cap && power(tone.kind, cost, more) > tone.mask {
+        true => SetBy::Mask,
+        false => SetBy::Cap,
+    }
+}
+
 // ---- Reading a sheet ----
 
 fn number(sheet: &[u8], at: usize, width: usize) -> u64 {
@@ -159,6 +187,18 @@ pub fn read(sheet: &[u8]) -> Result<Line, Refusal> {
 impl Line {
     pub fn is_silenced(&self, tone: usize) -> bool {
         self.silenced[tone / 32] >> (tone % 32) & 1 == 1
+    }
+
+    /// A tone's limit and what set it: "every other tone is silent".
+    pub fn limit(&self, number: usize) -> (u8, SetBy) {
+        match &self.described[number] {
+            Some(tone) if !self.is_silenced(number) => {
+                let cost = cost(self.gap.value(), tone.noise, tone.gain);
+                let limit = limit(tone, cost);
+                (limit, set_by(tone, cost, limit))
+            }
+            _ => (0, SetBy::Silent),
+        }
     }
 
     pub fn count_described(&self) -> u64 {

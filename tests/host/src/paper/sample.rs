@@ -1,6 +1,6 @@
 //! The independent loader on the papers' own cases, and by exhaustion.
 
-use super::line::{cost, limit, read, Kind, Tone, LARGEST_POWER};
+use super::line::{cost, limit, read, set_by, Kind, SetBy, Tone, LARGEST_POWER};
 use super::run::{Running, Step};
 use super::*;
 use crate::random::Random;
@@ -47,10 +47,77 @@ fn target(budget: u64, target: u32) -> Outcome {
 
 const REFUSED_11: Outcome = (11 << 32, [0; 3], [0; 3], [0; 3]);
 
+/// The limits of a sheet of three tones, each with what set it.
+fn limits_of(sheet: &[u8]) -> [(u8, SetBy); 3] {
+    let line = read(sheet).unwrap();
+    [0, 1, 2].map(|tone| line.limit(tone))
+}
+
 #[test]
-fn limits() {
+fn limits_and_what_set_them() {
     let run = Running::nothing(&read(&sample(0)).unwrap());
     assert_eq!(run.limit[..3], [5, 2, 3]);
+    let due = [(5, SetBy::Mask), (2, SetBy::Cap), (3, SetBy::Mask)];
+    for budget in [0, 39, LARGEST_POWER] {
+        assert_eq!(limits_of(&sample(budget)), due);
+    }
+}
+
+/// "every other tone is silent": tone 1 silenced, and then tone 0 not described.
+#[test]
+fn silent_tones() {
+    let sheet = sample(39);
+    let silenced = [&sheet[..60], &[6, 0, 0, 0, 0, 2, 7]].concat();
+    let due = [(5, SetBy::Mask), (0, SetBy::Silent), (3, SetBy::Mask)];
+    assert_eq!(limits_of(&silenced), due);
+    let undescribed = [&sheet[..15], &sheet[30..]].concat();
+    let due = [(0, SetBy::Silent), (2, SetBy::Cap), (3, SetBy::Mask)];
+    assert_eq!(limits_of(&undescribed), due);
+}
+
+/// A pair tone of cost 3: its powers are 3, 9, 21.
+#[test]
+fn cap_or_mask() {
+    for (cap, mask, due) in [
+        (0, 100, (0, SetBy::Cap)),
+        (0, 0, (0, SetBy::Cap)),
+        (1, 0, (0, SetBy::Mask)),
+        (15, 0, (0, SetBy::Mask)),
+        (2, 8, (1, SetBy::Mask)),
+        // One bit more would be over the cap, and over the mask too.
+        (2, 9, (2, SetBy::Cap)),
+        (2, 21, (2, SetBy::Cap)),
+        (3, 9, (2, SetBy::Mask)),
+    ] {
+        let tone = Tone { kind: Kind::Pair, noise: 3, gain: 1, cap, mask };
+        let limit = limit(&tone, 3);
+        assert_eq!((limit, set_by(&tone, 3, limit)), due, "cap {cap}, mask {mask}");
+    }
+}
+
+/// 2 bytes a tone, bytes past those stay, and there are no answers.
+#[test]
+fn limits_written() {
+    let (mut written, mut answer) = ([238; 7], [238; 24]);
+    assert_eq!(limits(&sample(39), &mut written, &mut answer), 0);
+    assert_eq!(written, [5, 2, 2, 1, 3, 2, 238]);
+    assert_eq!(answer, [238; 24]);
+}
+
+/// Refusal 8 under 2 x N bytes, or under 24 for the answers, after those of the sheet.
+#[test]
+fn limits_refused() {
+    let refusal = |sheet: &[u8], room: usize, answers: usize| {
+        let (mut written, mut answer) = (vec![238; room], vec![238; answers]);
+        let returned = limits(sheet, &mut written, &mut answer);
+        assert!(returned == 0 || written.iter().chain(&answer).all(|byte| *byte == 238));
+        returned
+    };
+    assert_eq!(refusal(&sample(39), 6, 24), 0);
+    assert_eq!(refusal(&sample(39), 5, 24), 8 << 32);
+    assert_eq!(refusal(&sample(39), 0, 24), 8 << 32);
+    assert_eq!(refusal(&sample(39), 6, 23), 8 << 32);
+    assert_eq!(refusal(&[], 0, 0), 2 << 32);
 }
 
 #[test]
@@ -156,7 +223,8 @@ fn tenths_refused() {
 
 #[test]
 fn bench_program_output() {
-    assert_eq!(printed(&sample(39)), "0 3 21\n1 2 15\n2 1 3\ntotal 6 39\n");
+    let due = "0 3 21 mask\n1 2 15 cap\n2 1 3 mask\ntotal 6 39\n";
+    assert_eq!(printed(&sample(39)), due);
     assert_eq!(printed(&[]), "refused 2 0\n");
     assert_eq!(printed(&[1; 4097]), "refused 1 0\n");
 }
@@ -202,7 +270,8 @@ fn check_searches(run: &Running) {
     assert_eq!(run.latest_held().as_ref(), held(run).last());
 }
 
-/// Each tone's limit, against every number of bits up to its cap.
+/// Each tone's limit, against every number of bits up to its cap: the mask set it if
+/// one of them is over the mask.
 fn check_limits(line: &Line, run: &Running) {
     for number in 0..line.tones {
         let passes = |tone: &Tone, bits: u8| {
@@ -211,6 +280,12 @@ fn check_limits(line: &Line, run: &Running) {
         let largest = line.described[number]
             .and_then(|tone| (0..=tone.cap).filter(|&bits| passes(&tone, bits)).max());
         assert_eq!(run.limit[number], largest.unwrap_or(0));
+        let set_by = match (largest, line.described[number]) {
+            (Some(bits), Some(tone)) if bits < tone.cap => SetBy::Mask,
+            (Some(_), _) => SetBy::Cap,
+            (None, _) => SetBy::Silent,
+        };
+        assert_eq!(line.limit(number), (run.limit[number], set_by));
     }
 }
 
