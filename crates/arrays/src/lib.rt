@@ -17,7 +17,7 @@ use sheet::Read;
 use sizes::TONES;
 use sizes::WORDS;
 
-// What the runs need of the tone whose command stands at a place: nothing where none does, or where it is silenced.
+// What is found of the tone whose command stands at a place: nothing where none does, or where it is silenced.
 pub fn steps_at(s: &[u8], gap: u16, place: u16, silenced: bool) -> Steps
     requires { ⌜ PartsInRange gap ⌝ }
     requires { ⌜ EntryInRange (entryAt (now s) place) ⌝ }

@@ -73,6 +73,7 @@ fn show_loading(sheet: &[u8], size: usize)
     match loaded {
         Loaded::Refused(why) => print_refusal(why),
         Loaded::Totals(bits, power) => {
+            // The loading was accepted and the buffer has room, so the limits are written.
             loader::limits(sheet, &mut limits);
             print_table(&table, &limits, size);
             print(b"total");

@@ -9,7 +9,7 @@ use Rattle.line.specs.declared.SetBy.{SetBy}
 use Rattle.line.specs.declared.SetBy.the-variants.{Silent, Cap, Mask}
 use Rattle.line.specs.Line.{Line, tones, setByAt}
 use Rattle.refusals.specs.Refusals.{Outcome, success, refusal}
-use Rattle.refusals.specs.Writing.{Writing, written, turned-down, ifFits}
+use Rattle.refusals.specs.Writing.{Writing, writes, turned-down, ifFits}
 use Rattle.sheet.specs.Reading.{Meaning, accepted, refused}
 use Rattle.limits.specs.declared.Limited.{Limited}
 use Rattle.limits.specs.declared.Limited.the-variants.{Written, Refused}
@@ -43,11 +43,11 @@ limiting (refused r) room = turned-down r
 
 -- The call answers nothing but that the limits are written: as the enum, and as the paper's numbers.
 abbrev pub limitAnswer : Writing → Limited
-limitAnswer (written bytes) = Written
+limitAnswer (writes bytes) = Written
 limitAnswer (turned-down r) = Refused r
 
 abbrev pub limitOutcome : Writing → Outcome
-limitOutcome (written bytes) = success []
+limitOutcome (writes bytes) = success []
 limitOutcome (turned-down r) = refusal 0 r
 
 -- the paper's number, place and answers of each case of the enum

@@ -40,8 +40,8 @@ pub struct Limit {
     pub by: SetBy,
 }
 
-// What the runs need of a tone, whichever its kind: its limit, and its powers. The power of b bits is the cost, doubled `doublings` × b
-// times, less the cost.
+// What is found of a tone, whichever its kind: its limit, and for the runs its powers. The power of b bits is the cost, doubled
+// `doublings` × b times, less the cost.
 pub struct Steps {
     pub limit: Limit,
     pub cost: u32,
@@ -130,7 +130,7 @@ fn limit_of(tone: Tone, cost: u32) -> Limit
     }
 }
 
-// What the runs need of a tone that is described and not silenced.
+// What is found of a tone that is described and not silenced.
 pub fn steps_of(gap: u16, tone: Tone) -> Steps
     requires { ⌜ PartsInRange gap ⌝ }
     requires { ⌜ InRange tone ⌝ }

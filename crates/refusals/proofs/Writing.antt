@@ -9,16 +9,16 @@ use lib.Seq.{sets}
 use Rattle.lists.proofs.Stores.{from-start}
 use Rattle.refusals.specs.declared.Refusal.{Refusal}
 use Rattle.refusals.specs.declared.Refusal.the-variants.{DestinationTooSmall}
-use Rattle.refusals.specs.Writing.{written, turned-down, ifFits, afterWriting}
+use Rattle.refusals.specs.Writing.{writes, turned-down, ifFits, afterWriting}
 
 pub too-small : {room : ℕ} (bytes : List ℕ) → room < length bytes → ifFits room bytes ≡ turned-down DestinationTooSmall
 too-small {room} bytes h = rw (lt-ltb room (length bytes) h)
 
-pub fits : {room : ℕ} (bytes : List ℕ) → length bytes ≤ room → ifFits room bytes ≡ written bytes
+pub fits : {room : ℕ} (bytes : List ℕ) → length bytes ≤ room → ifFits room bytes ≡ writes bytes
 fits {room} bytes h = rw (le-ltb room (length bytes) h)
 
 -- stores from the start on are what the call leaves
-pub stores-are : (bytes old : List ℕ) → length bytes ≤ length old → sets old 0 bytes ≡ afterWriting (written bytes) old
+pub stores-are : (bytes old : List ℕ) → length bytes ≤ length old → sets old 0 bytes ≡ afterWriting (writes bytes) old
 stores-are bytes old h = from-start bytes old h
 
 pub untouched : (r : Refusal) (old : List ℕ) → afterWriting (turned-down r) old ≡ old

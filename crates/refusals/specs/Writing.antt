@@ -11,14 +11,14 @@ use Rattle.refusals.specs.declared.Refusal.the-variants.{DestinationTooS
 
 -- The call writes these bytes, or is turned down.
 pub data Writing : Type 0 where
-  written : (bytes : List ℕ) → Writing
+  writes : (bytes : List ℕ) → Writing
   turned-down : Refusal → Writing
 
 -- refusal 8: the bytes do not fit a buffer of so many
 abbrev pub ifFits : (room : ℕ) → (bytes : List ℕ) → Writing
-ifFits room bytes = cond (ltb room (length bytes)) (turned-down DestinationTooSmall) (written bytes)
+ifFits room bytes = cond (ltb room (length bytes)) (turned-down DestinationTooSmall) (writes bytes)
 
 -- the buffer afterwards
 abbrev pub afterWriting : Writing → (old : List ℕ) → List ℕ
-afterWriting (written bytes) old = bytes ++ drop (length bytes) old
+afterWriting (writes bytes) old = bytes ++ drop (length bytes) old
 afterWriting (turned-down r) old = old

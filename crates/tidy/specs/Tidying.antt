@@ -5,7 +5,7 @@ use mathlib.Core.List.{[], _∷_}
 use Prim.Native.Nat.{ℕ}
 use lib.ListN.{length}
 use Rattle.refusals.specs.Refusals.{Outcome, success, refusal}
-use Rattle.refusals.specs.Writing.{Writing, written, turned-down, ifFits}
+use Rattle.refusals.specs.Writing.{Writing, writes, turned-down, ifFits}
 use Rattle.sheet.specs.Reading.{Meaning, accepted, refused}
 use Rattle.tidyform.specs.Tidy.{tidy}
 use Rattle.tidy.specs.declared.Tidied.{Tidied}
@@ -18,11 +18,11 @@ tidying (refused r) room = turned-down r
 
 -- 'Tidying answers its length': as the enum, and as the paper's numbers
 abbrev pub tidyAnswer : Writing → Tidied
-tidyAnswer (written form) = Length (length form)
+tidyAnswer (writes form) = Length (length form)
 tidyAnswer (turned-down r) = Refused r
 
 abbrev pub tidyOutcome : Writing → Outcome
-tidyOutcome (written form) = success (length form ∷ [])
+tidyOutcome (writes form) = success (length form ∷ [])
 tidyOutcome (turned-down r) = refusal 1 r
 
 -- the paper's number, place and answer of each case of the enum

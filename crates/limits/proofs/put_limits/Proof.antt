@@ -3,12 +3,12 @@ use Prim.Native.Nat.{_-_}
 use native.Mathlib.Omega.{arith}
 use borrow.Author.Needs.{needs}
 use Rattle.arrays.proofs.Indexed.{header-gap, size-high, gap-in-range, tone-in-range}
-use Rattle.limits.proofs.Bytes.{Writing, writing-starts, written-limit, written-limits}
+use Rattle.limits.proofs.Bytes.{WritingOf, writing-starts, written-limit, written-limits}
 use Rattle.limits.proofs.put_limits.Statement.{statement}
 use Rattle.limits.proofs.put_limits.Tie as tie
 
 abbrev Inv-loop : tie.InvT-loop
-Inv-loop out₀ s header places maps parts i₀ out i = Writing s header places maps out₀ out i
+Inv-loop out₀ s header places maps parts i₀ out i = WritingOf s header places maps out₀ out i
 
 abbrev μ-loop : tie.MeasureT-loop
 μ-loop out₀ s header places maps parts i₀ out i = header .size - i
