@@ -1,7 +1,7 @@
 -- The three outcomes of the call, each with its answer and its buffer.
 -- Assumes nothing.
 use mathlib.Core.List.{List}
-use mathlib.Core.Path.{_≡_, refl}
+use mathlib.Core.Path.{_≡_, refl, sym}
 use Prim.Native.Nat.{ℕ, _*_, _≤_, _<_}
 use native.Mathlib.Omega.{arith}
 use lib.ListN.{length}
@@ -23,11 +23,11 @@ abbrev pub LimitingEnds : writing.Writing → (out after : List ℕ) → Limited
 LimitingEnds w out after r = (r ≡ limitAnswer w) × ((limitNumbers r ≡ limitOutcome w) × (after ≡ writing.afterWriting w out))
 
 pub turned-down : {x : Meaning} (r : Refusal) (out : List ℕ) → x ≡ refused r → LimitingEnds (limiting x (length out)) out out (Refused r)
-turned-down r out e = rw e (refl, (refl, refl))
+turned-down r out e = rw e (refl, (refl, sym (laws.untouched r out)))
 
 module _ {x : Meaning} {l : Line} (e : x ≡ accepted l) (out : List ℕ) {n : ℕ} (f : n ≡ l .size) where
   pub too-small : length out < limitBytesATone * n → LimitingEnds (limiting x (length out)) out out (Refused DestinationTooSmall)
-  too-small h = rw (e, laws.too-small {room = length out} (limitBytes l) (omega (arith, length-limits l))) (refl, (refl, refl))
+  too-small h = rw (e, laws.too-small {room = length out} (limitBytes l) (omega (arith, length-limits l))) (refl, (refl, sym (laws.untouched DestinationTooSmall out)))
 
   pub written : limitBytesATone * n ≤ length out → LimitingEnds (limiting x (length out)) out (sets out 0 (limitBytes l)) Written
   written h =

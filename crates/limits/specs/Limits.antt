@@ -20,7 +20,7 @@ setByNumber Silent = 0
 setByNumber Cap = 1
 setByNumber Mask = 2
 
--- and the case of a number: where it is none of these, mask
+-- and the case of a number, for whoever reads the bytes; every other number is read as mask, so that each has a case
 abbrev pub setByOf : (number : ℕ) → SetBy
 setByOf number = cond (eqb number 0) Silent (cond (eqb number 1) Cap Mask)
 

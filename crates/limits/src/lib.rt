@@ -37,7 +37,7 @@ fn number_of(by: SetBy) -> u8
     }
 }
 
-// What set a limit, by its number: for who reads what the call has written.
+// What set a limit, by its number: for whoever reads what the call has written.
 pub fn set_by(number: u8) -> SetBy
     ensures { λ r. ⌜ r ≡ setByOf number ⌝ }
 {

@@ -1,7 +1,7 @@
 -- The three outcomes of tidying, each with its answer and its buffer.
 -- Assumes nothing.
 use mathlib.Core.List.{List}
-use mathlib.Core.Path.{_≡_, refl}
+use mathlib.Core.Path.{_≡_, refl, sym}
 use Prim.Native.Nat.{ℕ, _≤_, _<_}
 use native.Mathlib.Omega.{arith}
 use lib.ListN.{length}
@@ -22,11 +22,11 @@ abbrev pub TidyingEnds : writing.Writing → (out after : List ℕ) → Tidied �
 TidyingEnds w out after r = (r ≡ tidyAnswer w) × ((tidyNumbers r ≡ tidyOutcome w) × (after ≡ writing.afterWriting w out))
 
 pub turned-down : {x : Meaning} (r : Refusal) (out : List ℕ) → x ≡ refused r → TidyingEnds (tidying x (length out)) out out (Refused r)
-turned-down r out e = rw e (refl, (refl, refl))
+turned-down r out e = rw e (refl, (refl, sym (laws.untouched r out)))
 
 module _ {x : Meaning} {l : Line} (e : x ≡ accepted l) (out : List ℕ) {n : ℕ} (f : n ≡ length (tidy l)) where
   pub too-small : length out < n → TidyingEnds (tidying x (length out)) out out (Refused DestinationTooSmall)
-  too-small h = rw (e, laws.too-small {room = length out} (tidy l) (omega arith)) (refl, (refl, refl))
+  too-small h = rw (e, laws.too-small {room = length out} (tidy l) (omega arith)) (refl, (refl, sym (laws.untouched DestinationTooSmall out)))
 
   pub written : n ≤ length out → TidyingEnds (tidying x (length out)) out (sets out 0 (tidy l)) (Length n)
   written h = rw (e, laws.fits {room = length out} (tidy l) (omega arith), f) (refl, (refl, laws.stores-are (tidy l) out (omega arith)))

@@ -21,7 +21,7 @@ const DOCUMENTS: [&str; 7] = [
 /// What runs these commands is not run by them.
 const RUNNERS: [&str; 2] = [".ci/run", "tests/run"];
 /// What tests/run has done to set up, by these words, where it has the prover.
-const SET_UP: [&str; 3] = ["rt staticlib toqhaymi", "rt staticlib outside", "rt check bench"];
+const SET_UP: [&str; 2] = ["rt staticlib toqhaymi", "rt check bench"];
 
 struct Given {
     at: String,

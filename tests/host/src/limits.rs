@@ -14,6 +14,9 @@ pub fn judge(input: &Input, outcome: &Outcome) -> Result<(), String> {
         (0..tones).map(|tone| outcome.destination[BYTES_A_LIMIT * tone]).collect();
     let mut input = Input { table: vec![0; BYTES_A_TONE * tones], ..input.clone() };
     let loaded = calls::ours(Call::LoadMost, &input)?;
+    if loaded.returned != 0 {
+        return Err("a sheet whose limits were written is not loaded".to_string());
+    }
     let mut both = entries(&input, &loaded).zip(&limits);
     if let Some(tone) = both.position(|(entry, limit)| entry[0] > *limit) {
         return Err(format!("load_most gives tone {tone} more bits than its limit"));

@@ -19,7 +19,7 @@ returns : tie.Need-returns
 returns c =
     let k = c .before .before .before in
     let x = index k in
-    too-small (x .means) (start k .args .out .now) (sym (size-is x)) (c .if1 .taken)
+    too-small (x .means) (start k .args .out .now) (sym (size-is x)) (omega (arith, c .if1 .taken))
 
 put-limits-requires : tie.Need-put-limits-requires
 put-limits-requires c κs =

@@ -1,11 +1,14 @@
 -- `outside::outside_limits` meets its contract. Assumes nothing.
+use native.Mathlib.Omega.{arith}
 use borrow.Author.Needs.{needs}
 use Rattle.answers.proofs.Hosted.{short-writes, long-writes}
 use Rattle.outside.proofs.outside_limits.Statement.{statement}
 use Rattle.outside.proofs.outside_limits.Tie as tie
 
 returns : tie.Need-returns
-returns c = short-writes _ _ _ (c .before .if1 .taken) (c .without-room .ensures) _ _
+returns c =
+    let a = c .before .before .before .before .before .args in
+    short-writes _ _ (a .answer .now) (omega (arith, c .before .if1 .taken)) (c .without-room .ensures) _ _
 
 returns-2 : tie.Need-returns-2
 returns-2 c =
