@@ -9,8 +9,9 @@ use Rattle.line.specs.declared.SetBy.{SetBy}
 use Rattle.line.specs.declared.SetBy.the-variants.{Silent, Cap, Mask}
 use Rattle.line.specs.Line.{Line, tones, setByAt}
 use Rattle.refusals.specs.Refusals.{Outcome, success, refusal}
-use Rattle.refusals.specs.Writing.{Writing, writes, turned-down, ifFits}
-use Rattle.sheet.specs.Reading.{Meaning, accepted, refused}
+use Rattle.refusals.specs.Writing.{Writing, writes, turned-down}
+use Rattle.sheet.specs.Reading.{Meaning}
+use Rattle.sheet.specs.Writes.{writing}
 use Rattle.limits.specs.declared.Limited.{Limited}
 use Rattle.limits.specs.declared.Limited.the-variants.{Written, Refused}
 
@@ -36,10 +37,9 @@ limitsBelow l (suc n) = limitsBelow l n ++ limitEntry l n
 abbrev pub limitBytes : Line → List ℕ
 limitBytes l = limitsBelow l (l .size)
 
--- The refusals of the sheet come first; then the limits are written, if they fit.
+-- The sheet's refusals, 8, or the limits written.
 abbrev pub limiting : Meaning → (room : ℕ) → Writing
-limiting (accepted l) room = ifFits room (limitBytes l)
-limiting (refused r) room = turned-down r
+limiting m room = writing limitBytes m room
 
 -- The call answers nothing but that the limits are written: as the enum, and as the paper's numbers.
 abbrev pub limitAnswer : Writing → Limited

@@ -112,6 +112,6 @@ module _ (s : List ℕ) (b : Bytes s) (old new : List ℕ) where
 
 pub tidy-call : (s : List ℕ) → Bytes s → (old : List ℕ) {new : List ℕ} → new ≡ afterWriting (tidying (reading s) (length old)) old → TidyOn s old new
 tidy-call s b old {new} n l e h = record {
-  front = ap (take (length (tidy l))) (n ∙ rw (e, fits (tidy l) h)) ∙ take-at (tidy l) (drop (length (tidy l)) old) (length (tidy l)) refl;
+  front = ap (take (length (tidy l))) (n ∙ rw (e, fits {room = length old} (tidy l) h)) ∙ take-at (tidy l) (drop (length (tidy l)) old) (length (tidy l)) refl;
   keeps = tidy-keeps s b l e;
 }

@@ -5,3 +5,4 @@ pub mod Turns
 pub mod Uses
 pub mod Counts
 pub mod Formats
+pub mod Writes

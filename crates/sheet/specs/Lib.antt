@@ -1,3 +1,4 @@
 pub mod Reading
 pub mod Index
 pub mod Check
+pub mod Writes

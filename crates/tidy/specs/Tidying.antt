@@ -5,16 +5,16 @@ use mathlib.Core.List.{[], _∷_}
 use Prim.Native.Nat.{ℕ}
 use lib.ListN.{length}
 use Rattle.refusals.specs.Refusals.{Outcome, success, refusal}
-use Rattle.refusals.specs.Writing.{Writing, writes, turned-down, ifFits}
-use Rattle.sheet.specs.Reading.{Meaning, accepted, refused}
+use Rattle.refusals.specs.Writing.{Writing, writes, turned-down}
+use Rattle.sheet.specs.Reading.{Meaning}
+use Rattle.sheet.specs.Writes.{writing}
 use Rattle.tidyform.specs.Tidy.{tidy}
 use Rattle.tidy.specs.declared.Tidied.{Tidied}
 use Rattle.tidy.specs.declared.Tidied.the-variants.{Length, Refused}
 
--- the refusals of the sheet come first; then the tidy form is written, if it fits
+-- the sheet's refusals, 8, or the tidy form written
 abbrev pub tidying : Meaning → (room : ℕ) → Writing
-tidying (accepted l) room = ifFits room (tidy l)
-tidying (refused r) room = turned-down r
+tidying m room = writing tidy m room
 
 -- 'Tidying answers its length': as the enum, and as the paper's numbers
 abbrev pub tidyAnswer : Writing → Tidied

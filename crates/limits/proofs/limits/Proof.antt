@@ -1,9 +1,11 @@
 -- `limits::limits` meets its contract. Assumes nothing.
-use mathlib.Core.Path.{sym, _∙_}
+use mathlib.Core.Path.{refl, _∙_}
 use native.Mathlib.Omega.{arith}
 use Rattle.sheet.specs.Index.{Indexed}
 use Rattle.sheet.proofs.Uses.{indexed, refused-is, size-is}
-use Rattle.limits.proofs.Outcomes.{turned-down, too-small, written}
+use Rattle.sheet.proofs.Writes.{refused-ends, short-ends, written-ends}
+use Rattle.limits.proofs.Bytes.{length-limits}
+use Rattle.limits.proofs.Outcomes.{limits-write}
 use borrow.Author.Needs.{needs}
 use Rattle.limits.proofs.limits.Statement.{statement}
 use Rattle.limits.proofs.limits.Tie as tie
@@ -19,7 +21,7 @@ returns : tie.Need-returns
 returns c =
     let k = c .before .before .before in
     let x = index k in
-    too-small (x .means) (start k .args .out .now) (sym (size-is x)) (omega (arith, c .if1 .taken))
+    short-ends limits-write (x .means) (start k .args .out .now) (omega (arith, length-limits (x .line), size-is x, c .if1 .taken)) refl
 
 put-limits-requires : tie.Need-put-limits-requires
 put-limits-requires c κs =
@@ -29,14 +31,14 @@ put-limits-requires c κs =
 returns-2 : tie.Need-returns-2
 returns-2 c =
     let k = c .before .before .before in
-    turned-down _ (k .before .before .before .before .before .args .out .now) (refused-is (k .read-sheet .ensures) (c .before .read .given .1))
+    refused-ends limits-write _ (k .before .before .before .before .before .args .out .now) (refused-is (k .read-sheet .ensures) (c .before .read .given .1)) refl
 
 returns-3 : tie.Need-returns-3
 returns-3 c =
     let i = c .before .before .before .before .before .before in
     let k = i .before .before .before in
     let x = index k in
-    let w = written (x .means) (start k .args .out .now) (sym (size-is x)) (i .if1 .left) in
+    let w = written-ends limits-write (x .means) (start k .args .out .now) (omega (arith, length-limits (x .line), size-is x, i .if1 .left)) refl in
     (w .0, (w .1 .0, c .before .before .put-limits .ensures (x .line) (x .means) ∙ w .1 .1))
 
 pub limits-spec : {M : Type 1} → statement M

@@ -1,5 +1,5 @@
 -- `tidy::tidy` meets its contract. Assumes nothing.
-use mathlib.Core.Path.{_≡_, _∙_}
+use mathlib.Core.Path.{_≡_, refl, ap, _∙_}
 use Prim.Native.Nat.{_+_}
 use native.Mathlib.Omega.{arith}
 use lib.ListN.{length}
@@ -7,10 +7,12 @@ use Rattle.line.specs.Line.{Line}
 use Rattle.sheet.specs.Reading.{accepted, reading}
 use Rattle.sheet.specs.Index.{Indexed}
 use Rattle.sheet.proofs.Uses.{indexed, refused-is, size-high}
+use Rattle.sheet.proofs.Writes.{refused-ends, short-ends, written-ends}
 use Rattle.tidyform.specs.Tidy.{tidy}
 use Rattle.tidyform.proofs.Length.{length-head}
+use Rattle.tidy.specs.declared.Tidied.the-variants.{Length}
 use Rattle.tidy.proofs.Index.{tidy-bytes}
-use Rattle.tidy.proofs.Outcomes.{turned-down, too-small, written}
+use Rattle.tidy.proofs.Outcomes.{tidy-writes}
 use borrow.Author.Needs.{needs}
 use Rattle.tidy.proofs.tidy.Statement.{statement}
 use Rattle.tidy.proofs.tidy.Tie as tie
@@ -45,7 +47,7 @@ returns : tie.Need-returns
 returns c =
     let n = c .before in
     let x = index (accepted-at n) in
-    too-small (x .means) (accepted-at n .before .before .before .before .before .before .before .args .out .now) (counted n (x .line) (x .means)) (c .if1 .taken)
+    short-ends tidy-writes (x .means) (accepted-at n .before .before .before .before .before .before .before .args .out .now) (omega (arith, counted n (x .line) (x .means), c .if1 .taken)) refl
 
 put-line-requires : tie.Need-put-line-requires
 put-line-requires c κs =
@@ -53,14 +55,15 @@ put-line-requires c κs =
     (index (accepted-at (i .before)), λ l e. omega (arith, counted (i .before) l e, i .if1 .left))
 
 returns-2 : tie.Need-returns-2
-returns-2 c = turned-down _ (c .before .before .before .before .before .before .before .before .args .out .now) (refused-is (c .before .before .before .read-sheet .ensures) (c .before .read .given .1))
+returns-2 c = refused-ends tidy-writes _ (c .before .before .before .before .before .before .before .before .args .out .now) (refused-is (c .before .before .before .read-sheet .ensures) (c .before .read .given .1)) refl
 
 returns-3 : tie.Need-returns-3
 returns-3 c =
     let i = c .before .before .before .before .before .before in
     let n = i .before in
     let x = index (accepted-at n) in
-    let w = written (x .means) (accepted-at n .before .before .before .before .before .before .before .args .out .now) (counted n (x .line) (x .means)) (i .if1 .left) in
+    let length-is = counted n (x .line) (x .means) in
+    let w = written-ends tidy-writes (x .means) (accepted-at n .before .before .before .before .before .before .before .args .out .now) (omega (arith, length-is, i .if1 .left)) (ap Length length-is) in
     (w .0, (w .1 .0, c .before .before .put-line .ensures (x .line) (x .means) ∙ w .1 .1))
 
 pub tidy-spec : {M : Type 1} → statement M
