@@ -50,10 +50,10 @@ extern "C" {
 #endif
 
 /* The version of the calls and of this header. */
-#define TOQHAYMI_VERSION "1.2.0"
+#define TOQHAYMI_VERSION "1.2.1"
 #define TOQHAYMI_VERSION_MAJOR 1
 #define TOQHAYMI_VERSION_MINOR 2
-#define TOQHAYMI_VERSION_PATCH 0
+#define TOQHAYMI_VERSION_PATCH 1
 
 /* The most stack that a call takes, in bytes. */
 #define TOQHAYMI_STACK_BYTES 16384

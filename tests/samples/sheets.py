@@ -780,6 +780,19 @@ group("W3: 256 tones: all alike, by turns, the last alone described")
 limited(wide(TOP, ALL_PAIRS))
 limited(wide(TOP, BY_TURNS))
 limited(line(256, 39, pair(255)), "0:silent " * 255 + "5:cap")
+group("W4: masks at and round the power of each number of bits, then every cap under a mask that allows more; each kind; the least and the largest cost")
+for g, noise, w in [(256, 1, 1), (65535, 65535, 16776705)]:
+    tones, answers = [], []
+    for kind, largest, base in [(4, 15, 2), (5, 7, 4)]:
+        for b in range(1, largest + 1):
+            power = w * (base ** b - 1)
+            for mask, limit in [(power - 1, b - 1), (power, b), (power + 1, b)]:
+                tones.append(tone(kind, len(tones), noise, 1, largest, mask))
+                answers.append("%d:%s" % (limit, "cap" if limit == largest else "mask"))
+        for cap in range(largest + 1):
+            tones.append(tone(kind, len(tones), noise, 1, cap, TOP))
+            answers.append("%d:cap" % cap)
+    limited(size(len(tones)) + gap(g) + budget(TOP) + b"".join(tones) + END, " ".join(answers))
 
 text = "".join(r + "\n" for r in ROWS)
 # The test program's buffer for its text (`text_buffer` of crates/samplebuffers).

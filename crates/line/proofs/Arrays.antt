@@ -45,7 +45,7 @@ small g (described t) false G I =
     record {
       cost-low = λ h. (range .low, doublings-low (t .kind));
       cost-high = omega (arith, range .high);
-      shift-high = shift-at-most t (doublings t) (limit t w) refl (limit-is t w .at-most) I;
+      shift-high = shift-at-most t (limit t w) (limit-is t w .at-most) I;
     }
 
 -- the limit with what set it

@@ -19,8 +19,9 @@ use Rattle.line.specs.declared.Kind.the-variants.{Pair}
 use Rattle.line.specs.declared.SetBy.{SetBy}
 use Rattle.line.specs.declared.SetBy.the-variants.{Silent, Cap, Mask}
 use Rattle.line.specs.Tone.{cost, kindPower, largest, limit, setBy}
+use Rattle.line.specs.Tries.{tries}
 use Rattle.line.specs.Line.{EntryInRange, entryOf, LineInRange, setByAt}
-use Rattle.line.specs.Cases.{Case, most, granted, refused, never, refits, costs, limits, limitsBy, sampleLimits, tenths, tone, sample, sampleTones, Through, CaseHolds, cases}
+use Rattle.line.specs.Cases.{Case, most, granted, refused, never, refits, costs, limits, limitsBy, sampleLimits, tried, tenths, tone, sample, sampleTones, Through, CaseHolds, cases}
 use Rattle.line.proofs.Loads.{line-rising, no-bits-fit}
 
 -- ---- tests that give a proof where they pass
@@ -122,6 +123,7 @@ row (limits w mask b) = test (ℕ-discrete (limit (tone Pair 1 1 15 mask) w) b)
 row (limitsBy w cap mask b by) =
     both (test (ℕ-discrete (limit (tone Pair 1 1 cap mask) w) b)) (sameSetBy (setBy (tone Pair 1 1 cap mask) w) by)
 row (sampleLimits i b by) = both (test (ℕ-discrete (sampleTones .limit i) b)) (sameSetBy (setByAt (sample 0) i) by)
+row (tried kind w cap mask n) = test (ℕ-discrete (tries (tone kind 1 1 cap mask) w) n)
 row (tenths d g) = onward (is-gap d g) (both (true? (right d g)) (test (decLe d mostTenths)))
 
 abbrev pub All : List Case → Type 0
@@ -144,5 +146,5 @@ proof (some a) p = a
 proof none p = absurd p
 
 pub starred-cases : All cases
-unfolding cases right test true? both onward same sameAnswer sameLoading sameSetBy through row each passed cost kindPower largest limit setBy step before? sum list against choice earliestFree latestHeld fits? takeIfFits giveUpOrTake refitMove addStep addStepTo refitStep follow run carrying setBits decLt decLe ℕ-discrete
+unfolding cases right test true? both onward same sameAnswer sameLoading sameSetBy through row each passed cost kindPower largest limit setBy tries step before? sum list against choice earliestFree latestHeld fits? takeIfFits giveUpOrTake refitMove addStep addStepTo refitStep follow run carrying setBits decLt decLe ℕ-discrete
 starred-cases = proof (each cases) tt

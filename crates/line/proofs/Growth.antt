@@ -28,6 +28,10 @@ pub doublings-low : (k : Kind) → 1 ≤ doublingsOf k
 doublings-low (Pair n) = omega arith
 doublings-low (Single n) = omega arith
 
+pub doublings-high : (k : Kind) → doublingsOf k ≤ 2
+doublings-high (Pair n) = omega arith
+doublings-high (Single n) = omega arith
+
 shift-high : (k : Kind) (b cap : ℕ) → b ≤ cap → cap ≤ mostCap (isSingle k) → doublingsOf k * b ≤ 15
 shift-high (Pair n) b cap h l = omega arith
 shift-high (Single n) b cap h l = omega arith
@@ -35,17 +39,35 @@ shift-high (Single n) b cap h l = omega arith
 -- ---- for any number of doublings d
 
 module _ (w d b : ℕ) where
+  -- shifted, the cost is no less
+  cost-under : (n : ℕ) → w * 1 ≤ w * 2 ^ n
+  cost-under n = mul-le-mul-left w (pow-pos n)
+
+  pow-next : 2 ^ (d * suc b) ≡ 2 ^ (d * b) * 2 ^ d
+  pow-next = ap (λ (n : ℕ). 2 ^ n) (mul-suc d b) ∙ pow-add 2 (d * b) d
+
+  -- the power of one bit more is the power so far, shifted, and the power of 1 bit
+  pub power-next : w * 2 ^ (d * suc b) - w ≡ (w * 2 ^ (d * b) - w) * 2 ^ d + (w * 2 ^ (d * 1) - w)
+  power-next =
+      let x : ℕ = 2 ^ (d * b) in
+      let g : ℕ = 2 ^ d in
+      let p : ℕ = w * x - w in
+      let one : d * 1 ≡ d = omega arith in
+      let lx : w * 1 ≤ w * x = cost-under (d * b) in
+      let lg : w * 1 ≤ w * g = cost-under d in
+      let pw : p + w ≡ w * x = omega arith in
+      rw (pow-next, one) (omega (arith, ap (λ (n : ℕ). n * g) pw))
+
   -- what one bit more adds
   step-shift : (w * 2 ^ (d * suc b) - w) - (w * 2 ^ (d * b) - w) ≡ (w * 2 ^ d - w) * 2 ^ (d * b)
   step-shift =
       let x : ℕ = 2 ^ (d * b) in
       let g : ℕ = 2 ^ d in
       let h : ℕ = w * g - w in
-      let e : 2 ^ (d * suc b) ≡ x * g = ap (λ (n : ℕ). 2 ^ n) (mul-suc d b) ∙ pow-add 2 (d * b) d in
-      let lx : w * 1 ≤ w * x = mul-le-mul-left w (pow-pos (d * b)) in
-      let lg : w * 1 ≤ w * g = mul-le-mul-left w (pow-pos d) in
+      let lx : w * 1 ≤ w * x = cost-under (d * b) in
+      let lg : w * 1 ≤ w * g = cost-under d in
       let hw : h + w ≡ w * g = omega arith in
-      rw e (omega (arith, ap (λ (n : ℕ). n * x) hw))
+      rw pow-next (omega (arith, ap (λ (n : ℕ). n * x) hw))
 
   steps-rise : 1 ≤ w → 1 ≤ d → (w * 2 ^ d - w) * 2 ^ (d * b) < (w * 2 ^ d - w) * 2 ^ (d * suc b)
   steps-rise wl dl =
@@ -54,9 +76,8 @@ module _ (w d b : ℕ) where
       let two : 2 ≤ 2 ^ d = pow-mono {i = 1} dl in
       let hl : w ≤ h = omega (arith, mul-le-mul-left w two) in
       let xl : 1 ≤ x = pow-pos (d * b) in
-      let e : 2 ^ (d * suc b) ≡ x * 2 ^ d = ap (λ (n : ℕ). 2 ^ n) (mul-suc d b) ∙ pow-add 2 (d * b) d in
       let s : 1 ≤ h * x = mul-le-mul {n₁ = 1} {m₁ = 1} (omega arith) xl in
-      rw e (omega (arith, mul-le-mul-left (h * x) two))
+      rw pow-next (omega (arith, mul-le-mul-left (h * x) two))
 
 -- ---- for either kind
 
@@ -80,5 +101,5 @@ pub power-zero : (t : Tone) (w : ℕ) → power t w 0 ≡ 0
 power-zero t w = let e : doublings t * 0 ≡ 0 = omega arith in rw (power-is t w 0, e) (omega arith)
 
 -- a shift that the ranges allow
-pub shift-at-most : (t : Tone) (d b : ℕ) → d ≡ doublings t → b ≤ carried t .cap → InRange t → d * b ≤ 15
-shift-at-most t d b e h I = rw e (shift-high (t .kind) b (carried t .cap) h (I .cap-high))
+pub shift-at-most : (t : Tone) (b : ℕ) → b ≤ carried t .cap → InRange t → doublings t * b ≤ 15
+shift-at-most t b h I = shift-high (t .kind) b (carried t .cap) h (I .cap-high)

@@ -2,6 +2,7 @@ pub mod Ceiling
 pub mod Largest
 pub mod Growth
 pub mod Limits
+pub mod Tries
 pub mod Masks
 pub mod Loads
 pub mod Arrays

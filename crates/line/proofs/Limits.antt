@@ -1,17 +1,19 @@
--- The limit of a tone is what document 01 calls it, and the number of bits at which the search stops; what stops it is what set the limit.
+-- The limit of a tone is what document 01 calls it, and the number of bits at which the search stops; what stops it is what set the limit, and
+-- says how many powers were tried.
 -- Assumes nothing.
 use mathlib.Core.Path.{_≡_}
 use Prim.Native.Nat.{ℕ, suc, _≤_, _<_}
 use native.Mathlib.Nat.{le-of-suc-le-suc, lt-of-not-le, not-le-of-lt, le-trans}
 use native.Mathlib.Decide.{decLe, le-ind}
 use native.Mathlib.Omega.{arith}
-use borrow.Author.Tests.{lt-ltb, le-leb, lt-leb}
+use borrow.Author.Tests.{lt-ltb, le-leb, lt-leb, eq-eqb, ne-eqb}
 use Rattle.line.specs.declared.Kind.{Kind}
 use Rattle.line.specs.declared.Kind.the-variants.{Pair, Single}
 use Rattle.line.specs.declared.Tone.{Tone}
 use Rattle.line.specs.declared.SetBy.the-variants.{Cap, Mask}
 use Rattle.line.specs.declared.Limit.{Limit}
 use Rattle.line.specs.Tone.{carried, isSingle, mostCap, InRange, power, limit, setBy, limitOf}
+use Rattle.line.specs.Tries.{tries}
 use Rattle.line.proofs.Largest.{Largest, largest-is, largest-unique}
 use Rattle.line.proofs.Growth.{power-zero, power-grows}
 
@@ -32,32 +34,40 @@ module _ (t : Tone) (w : ℕ) where
   unfolding limit
   limit-is = largest-is (λ b. decLe (power t w b) (carried t .mask)) (omega (arith, power-zero t w)) (carried t .cap)
 
-  -- b bits have been tried, and are within the cap and the mask
-  pub record Tried (b : ℕ) : Type 0 where
+  -- b bits are within the cap and the mask
+  pub record Allowed (b : ℕ) : Type 0 where
     pub at-most : b ≤ carried t .cap
     pub under : power t w b ≤ carried t .mask
 
   -- the mask does not allow one bit more
-  mask-limit : {b : ℕ} → Tried b → carried t .mask < power t w (suc b) → limit t w ≡ b
-  mask-limit {b} T over = largest-unique limit-is stopped
+  mask-limit : {b : ℕ} → Allowed b → carried t .mask < power t w (suc b) → limit t w ≡ b
+  mask-limit {b} A over = largest-unique limit-is stopped
     where
       stopped : Largest (λ c. power t w c ≤ carried t .mask) (carried t .cap) b
       stopped = record {
-        at-most = T .at-most;
-        passes = T .under;
+        at-most = A .at-most;
+        passes = A .under;
         most = λ k l p. le-of-suc-le-suc (lt-of-not-le {n = suc b} {m = k} (λ h. not-le-of-lt over (le-trans (power-mono h) p)));
       }
 
-  pub mask-stops : {b : ℕ} → Tried b → b < carried t .cap → carried t .mask < power t w (suc b) → _≡_ {A = Limit} (record { bits = b; by = Mask }) (limitOf t w)
+  pub mask-stops : {b : ℕ} → Allowed b → b < carried t .cap → carried t .mask < power t w (suc b) → _≡_ {A = Limit} (record { bits = b; by = Mask }) (limitOf t w)
   unfolding setBy
-  mask-stops {b} T below over =
-      simp (mask-limit T over, le-leb (suc b) (carried t .cap) below, lt-ltb (carried t .mask) (power t w (suc b)) over)
+  mask-stops {b} A below over =
+      simp (mask-limit A over, le-leb (suc b) (carried t .cap) below, lt-ltb (carried t .mask) (power t w (suc b)) over)
+
+  pub mask-tries : {b : ℕ} → Allowed b → b < carried t .cap → carried t .mask < power t w (suc b) → suc b ≡ tries t w
+  unfolding tries
+  mask-tries {b} A below over = simp (mask-limit A over, ne-eqb b (carried t .cap) (λ e. omega (arith, e)))
 
   -- the cap does not
-  cap-limit : {b : ℕ} → Tried b → carried t .cap ≤ b → limit t w ≡ b
-  cap-limit {b} T full =
-      largest-unique limit-is (record { at-most = T .at-most; passes = T .under; most = λ k l p. omega arith })
+  cap-limit : {b : ℕ} → Allowed b → carried t .cap ≤ b → limit t w ≡ b
+  cap-limit {b} A full =
+      largest-unique limit-is (record { at-most = A .at-most; passes = A .under; most = λ k l p. omega arith })
 
-  pub cap-stops : {b : ℕ} → Tried b → carried t .cap ≤ b → _≡_ {A = Limit} (record { bits = b; by = Cap }) (limitOf t w)
+  pub cap-stops : {b : ℕ} → Allowed b → carried t .cap ≤ b → _≡_ {A = Limit} (record { bits = b; by = Cap }) (limitOf t w)
   unfolding setBy
-  cap-stops {b} T full = simp (cap-limit T full, lt-leb (suc b) (carried t .cap) (omega arith))
+  cap-stops {b} A full = simp (cap-limit A full, lt-leb (suc b) (carried t .cap) (omega arith))
+
+  pub cap-tries : {b : ℕ} → Allowed b → carried t .cap ≤ b → b ≡ tries t w
+  unfolding tries
+  cap-tries {b} A full = simp (cap-limit A full, eq-eqb b (carried t .cap) (omega (arith, A .at-most)))

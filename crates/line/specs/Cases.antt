@@ -1,4 +1,4 @@
--- The starred cases of document 01, 'Sample line', and the figures of document 02's requests, as rows of one list, and what each says of
+-- The starred cases of document 01, 'Sample line', and figures and cases of document 02's requests, as rows of one list, and what each says of
 -- the definitions.
 -- Assumes nothing.
 use mathlib.Core.Path.{_≡_}
@@ -17,6 +17,7 @@ use Rattle.line.specs.declared.Tone.{Tone}
 use Rattle.line.specs.declared.SetBy.{SetBy}
 use Rattle.line.specs.declared.SetBy.the-variants.{Cap, Mask}
 use Rattle.line.specs.Tone.{cost, limit, setBy}
+use Rattle.line.specs.Tries.{tries}
 use Rattle.line.specs.Line.{described, Line, tones, setByAt}
 
 abbrev pub tone : (Numbers → Kind) → (noise gain cap mask : ℕ) → Tone
@@ -54,6 +55,8 @@ pub data Case : Type 0 where
   limitsBy : (w cap mask b : ℕ) → SetBy → Case
   -- W3, a tone of the sample line: its limit, and what set it
   sampleLimits : (i b : ℕ) → SetBy → Case
+  -- W4, kind, cost, cap and mask: how many powers the search for the limit tries
+  tried : (Numbers → Kind) → (w cap mask n : ℕ) → Case
   -- W1, tenths of a decibel: the gap
   tenths : (d g : ℕ) → Case
 
@@ -75,6 +78,7 @@ CaseHolds (costs gap noise gain w) = cost gap (tone Pair noise gain 0 0) ≡ w
 CaseHolds (limits w mask b) = limit (tone Pair 1 1 15 mask) w ≡ b
 CaseHolds (limitsBy w cap mask b by) = (limit (tone Pair 1 1 cap mask) w ≡ b) × (setBy (tone Pair 1 1 cap mask) w ≡ by)
 CaseHolds (sampleLimits i b by) = (sampleTones .limit i ≡ b) × (setByAt (sample 0) i ≡ by)
+CaseHolds (tried kind w cap mask n) = tries (tone kind 1 1 cap mask) w ≡ n
 CaseHolds (tenths d g) = gapOfTenths d ≡ g
 
 unfoldable pub cases : List Case
@@ -100,6 +104,12 @@ cases =
     ∷ sampleLimits 0 5 Mask
     ∷ sampleLimits 1 2 Cap
     ∷ sampleLimits 2 3 Mask
+    ∷ tried Pair 3 0 100 0
+    ∷ tried Pair 3 15 0 1
+    ∷ tried Pair 3 2 9 2
+    ∷ tried Pair 3 15 100 6
+    ∷ tried Pair 5 2 100 2
+    ∷ tried Single 1 7 100 4
     ∷ tenths 0 256
     ∷ tenths 100 2560
     ∷ tenths 200 25600

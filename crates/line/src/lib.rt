@@ -1,10 +1,11 @@
-// One tone of a line: document 01, 'Cost, power and limit of a tone'; document 02, W3.
+// One tone of a line: document 01, 'Cost, power and limit of a tone'; document 02, W3 and W4.
 ghost use mathlib.Core.Path.{_≡_};
 ghost use Prim.Native.Nat.{_*_, _^_, _≤_, _<_};
 ghost use Rattle.gaps.specs.Gap.{PartsInRange};
 ghost use Rattle.line.specs.Line.{stepsOf};
 ghost use Rattle.line.specs.Arrays.{powerIn};
-ghost use Rattle.line.specs.Tone.{mostCap, carried, doublings, InRange, Cost, cost, power, limitOf};
+ghost use Rattle.line.specs.Tone.{mostCap, carried, doublings, InRange, Cost, cost, limitOf};
+ghost use Rattle.line.specs.Tries.{tries};
 use gaps::GAP_UNIT;
 use sizes::PAIR_CAP;
 use sizes::SINGLE_CAP;
@@ -38,6 +39,12 @@ pub enum SetBy {
 pub struct Limit {
     pub bits: u8,
     pub by: SetBy,
+}
+
+// What the search for a limit answers: the limit, and how many powers it tried.
+struct Tried {
+    limit: Limit,
+    tries: u8,
 }
 
 // What is found of a tone, whichever its kind: its limit, and for the runs its powers. The power of b bits is the cost, doubled
@@ -99,34 +106,40 @@ pub fn power_at(cost: u32, doublings: u8, bits: u8) -> u64
     (cost << (doublings as u32 * bits as u32)) - cost
 }
 
-// The power of a number of bits of a tone, at most the cap.
-fn power(tone: Tone, cost: u32, bits: u8) -> u64
-    requires { ⌜ Cost cost × (bits ≤ carried tone .cap) × InRange tone ⌝ }
-    ensures { λ r. ⌜ r ≡ power tone cost bits ⌝ }
-{
-    power_at(cost, doublings(tone), bits)
-}
-
-// The limit of a tone, by trying one bit more until the cap or the mask stops it: that one set it.
-fn limit_of(tone: Tone, cost: u32) -> Limit
+// The limit of a tone, by trying the powers of 1 bit, 2 bits and so on until the cap or the mask stops it: that one set it. Each power
+// comes from the one before it: shifted, and the power of 1 bit added.
+fn limit_of(tone: Tone, cost: u32) -> Tried
     requires { ⌜ Cost cost × InRange tone ⌝ }
-    ensures { λ r. ⌜ r ≡ limitOf tone cost ⌝ }
+    ensures limit { λ r. ⌜ r .limit ≡ limitOf tone cost ⌝ }
+    ensures tries { λ r. ⌜ r .tries ≡ tries tone cost ⌝ }
 {
     let n = carried(tone);
     let cap = n.cap;
+    let shift = doublings(tone);
+    let first = power_at(cost, shift, 1);
     let mut bits: u8 = 0;
+    let mut tries: u8 = 0;
+    let mut power: u64 = 0;
     while bits < cap {
-        if n.mask < power(tone, cost, bits + 1) {
-            return Limit {
-                bits: bits,
-                by: SetBy::Mask,
+        power = (power << shift as u32) + first;
+        tries += 1;
+        if n.mask < power {
+            return Tried {
+                limit: Limit {
+                    bits: bits,
+                    by: SetBy::Mask,
+                },
+                tries: tries,
             };
         }
         bits += 1;
     }
-    Limit {
-        bits: bits,
-        by: SetBy::Cap,
+    Tried {
+        limit: Limit {
+            bits: bits,
+            by: SetBy::Cap,
+        },
+        tries: tries,
     }
 }
 
@@ -137,8 +150,10 @@ pub fn steps_of(gap: u16, tone: Tone) -> Steps
     ensures { λ r. ⌜ r ≡ stepsOf gap tone ⌝ }
 {
     let w = cost(gap, tone);
+    let tried = limit_of(tone, w);
+    let limit = tried.limit;
     Steps {
-        limit: limit_of(tone, w),
+        limit: limit,
         cost: w,
         doublings: doublings(tone),
     }

@@ -1,57 +1,84 @@
--- `line::limit_of` meets its contract. Between the turns the bits tried so far are within the cap and the mask. Assumes nothing.
-use mathlib.Core.Path.{ap}
-use native.Mathlib.Numerals.{add-one}
+-- `line::limit_of` meets its contract. Assumes nothing.
+use mathlib.Core.Path.{_≡_, refl}
+use Prim.Native.Nat.{_+_, _-_, _*_, _^_, _%_}
 use native.Mathlib.Omega.{arith}
-use Prim.Native.Nat.{_+_, _-_, _≤_}
 use borrow.Author.Needs.{needs}
-use Rattle.line.specs.Tone.{carried, power}
-use Rattle.line.specs.declared.Numbers.{Numbers}
-use Rattle.line.proofs.Growth.{power-zero}
-use Rattle.line.proofs.Limits.{Tried, cap-high, mask-stops, cap-stops}
+use Rattle.line.specs.Arrays.{powerIn}
+use Rattle.line.proofs.Tries.{Searched, Between, shift-at-most-2, one-more, next, next-fits, mask-ends, cap-ends}
 use Rattle.line.proofs.limit_of.Statement.{statement}
 use Rattle.line.proofs.limit_of.Tie as tie
 
 abbrev Inv-loop : tie.InvT-loop
-Inv-loop tone cost n cap bits₀ bits = Tried tone cost bits
+Inv-loop cost n cap shift first bits₀ tries₀ power₀ bits tries power = Between cost n shift bits tries power
 
 abbrev μ-loop : tie.MeasureT-loop
-μ-loop tone cost n cap bits₀ bits = cap - bits
+μ-loop cost n cap shift first bits₀ tries₀ power₀ bits tries power = cap - bits
 
--- one bit more is within the cap
-below : (c : tie.In-loop Inv-loop μ-loop) → c .before .loop .bits + 1 ≤ carried (c .before .before .before .args .tone) .cap
-below c = omega (arith, c .loop-test .taken, ap (λ (n : Numbers). n .cap) (c .before .before .carried .ensures))
+searched : (c : tie.After-doublings Inv-loop μ-loop)
+    → Searched (c .before .before .args .tone) (c .before .before .args .cost) (c .before .carried .result) (c .doublings .result)
+searched c = record {
+  cost = c .before .before .pre .0;
+  in-range = c .before .before .pre .1;
+  numbers = c .before .carried .ensures;
+  shift = c .doublings .ensures;
+}
+
+power-at-requires : tie.Need-power-at-requires Inv-loop μ-loop
+power-at-requires c κs = (omega (arith, c .before .before .pre .0 .high), omega (arith, shift-at-most-2 (searched c)))
 
 loop-holds : tie.Need-loop-holds Inv-loop μ-loop
-loop-holds c = record { at-most = omega arith; under = omega (arith, power-zero (c .before .args .tone) (c .before .args .cost)) }
+loop-holds c =
+    let none : c .before .doublings .result * 0 ≡ 0 = omega arith in
+    record { at-most = omega arith; power-of = rw none (omega arith); under = omega arith; counted = refl }
+
+shl-power : tie.Need-shl-power Inv-loop μ-loop
+shl-power c = omega (arith, shift-at-most-2 (searched (c .before .before .before)))
 
 add-power : tie.Need-add-power Inv-loop μ-loop
-add-power c = record { fits = omega (arith, below c, cap-high (c .before .before .before .pre .1)) }
+add-power c =
+    let a = c .before in
+    record { fits = next-fits (searched (a .before .before)) (a .loop .inv) (a .before .power-at .ensures) }
 
-power-requires : tie.Need-power-requires Inv-loop μ-loop
-power-requires c κs = (c .before .before .before .pre .0, below c, c .before .before .before .pre .1)
+-- what the turn tries
+power-tried : (c : tie.In-loop Inv-loop μ-loop) → (let a = c .before in
+    a .loop .power * 2 ^ a .before .before .doublings .result % 2 ^ 64 + a .before .power-at .result
+    ≡ powerIn (a .before .before .before .before .args .cost) (a .before .before .doublings .result) (a .loop .bits + 1))
+power-tried c =
+    let a = c .before in
+    next (searched (a .before .before)) (a .loop .inv) (a .before .power-at .ensures)
+
+add-tries : tie.Need-add-tries Inv-loop μ-loop
+add-tries c =
+    let a = c .before in
+    record { fits = omega (arith, one-more (searched (a .before .before)) (a .loop .inv), a .loop .inv .counted) }
 
 returns : tie.Need-returns Inv-loop μ-loop
 returns c =
-    let a = c .before .before .before .before in
-    let e = a .before .carried .ensures in
-    mask-stops (a .before .before .args .tone) (a .before .before .args .cost) (a .loop .inv) (omega (arith, below (c .before .before .before))) (omega (arith, c .if1 .taken, ap (λ (n : Numbers). n .mask) e, c .before .before .power .ensures, ap (power (a .before .before .args .tone) (a .before .before .args .cost)) (add-one (a .loop .bits))))
+    let a = c .before .before in
+    mask-ends (searched (a .before .before .before)) (a .before .loop .inv) (omega (arith, a .loop-test .taken)) (omega (arith, c .if1 .taken, power-tried a))
 
 add-bits : tie.Need-add-bits Inv-loop μ-loop
-add-bits c = add-power (c .before .before .before)
+add-bits c =
+    let a = c .before .before .before in
+    record { fits = one-more (searched (a .before .before)) (a .loop .inv) }
 
 loop-less : tie.Need-loop-less Inv-loop μ-loop
-loop-less c = omega (arith, c .before .before .before .loop-test .taken)
+loop-less c = omega (arith, c .before .before .loop-test .taken)
 
 loop-again : tie.Need-loop-again Inv-loop μ-loop
 loop-again c =
-    let a = c .before .before .before .before in
-    let e = a .before .carried .ensures in
-    record { at-most = below (c .before .before .before); under = omega (arith, c .if1 .left, ap (λ (n : Numbers). n .mask) e, c .before .before .power .ensures) }
+    let a = c .before .before in
+    record {
+      at-most = omega (arith, a .loop-test .taken);
+      power-of = power-tried a;
+      under = omega (arith, c .if1 .left);
+      counted = omega (arith, a .before .loop .inv .counted);
+    }
 
 returns-2 : tie.Need-returns-2 Inv-loop μ-loop
 returns-2 c =
     let a = c .before in
-    cap-stops (a .before .before .args .tone) (a .before .before .args .cost) (a .loop .inv) (omega (arith, c .loop-test .left, ap (λ (n : Numbers). n .cap) (a .before .carried .ensures)))
+    cap-ends (searched (a .before .before)) (a .loop .inv) (omega (arith, c .loop-test .left))
 
 pub limit-of-spec : {M : Type 1} → statement M
 limit-of-spec =
@@ -60,9 +87,14 @@ limit-of-spec =
     Inv-loop
     μ-loop
     (λ c κs. search needs)
+    (λ c κs. search needs)
+    power-at-requires
     loop-holds
+    (λ c. search needs)
+    (λ c. search needs)
+    shl-power
     add-power
-    power-requires
+    add-tries
     returns
     add-bits
     loop-less
