@@ -44,6 +44,8 @@ static const struct { const char *why, *place; } refusals[] = {
     {"the starting table has not one byte for each tone", NULL},
     {"the starting table has more bits than a tone's limit", "tone"},
     {"no table within limits and budget carries so many bits", NULL},
+    {"a float is not finite or not above zero", "byte"},
+    {"noise / gain is infinite, or the cost of the tone is over 16776705", "byte"},
 };
 
 static void stop(const char *what, const char *name)

@@ -18,12 +18,14 @@
  *
  * Sheet.  A line sheet, at most 4096 bytes. Its first command gives N, the
  *         number of tones, 1 to 256. Its second gives the gap, in 1/256 (02) or
- *         in tenths of a decibel (08).
+ *         in tenths of a decibel (08). Tones have whole numbers (04, 05) or, as
+ *         a line analyser reads them, 32-bit IEEE floats, high byte first (09,
+ *         0A).
  * Table.  9 bytes a tone, from tone 0 up: its bits, then its power in 8 bytes,
  *         high byte first. At least 9 x N bytes.
  * Start.  A starting table: one byte of bits a tone. Exactly N bytes.
- * Tidy.   The tidy sheet. It is never longer than the sheet it comes from, nor
- *         than TOQHAYMI_LARGEST_TIDY.
+ * Tidy.   The tidy sheet. It is never longer than the sheet it comes from, so
+ *         never than TOQHAYMI_LARGEST_TIDY.
  * Answer. At least 24 bytes. Each answer of a call takes 8 of them, high byte
  *         first, from the start of the buffer, in the order given with the call.
  *
@@ -50,10 +52,10 @@ extern "C" {
 #endif
 
 /* The version of the calls and of this header. */
-#define TOQHAYMI_VERSION "1.2.1"
+#define TOQHAYMI_VERSION "1.3.0"
 #define TOQHAYMI_VERSION_MAJOR 1
-#define TOQHAYMI_VERSION_MINOR 2
-#define TOQHAYMI_VERSION_PATCH 1
+#define TOQHAYMI_VERSION_MINOR 3
+#define TOQHAYMI_VERSION_PATCH 0
 
 /* The most stack that a call takes, in bytes. */
 #define TOQHAYMI_STACK_BYTES 16384
@@ -63,16 +65,16 @@ extern "C" {
 #define TOQHAYMI_MOST_TONES 256
 #define TOQHAYMI_BYTES_A_TONE 9
 #define TOQHAYMI_LARGEST_TABLE 2304
-#define TOQHAYMI_LARGEST_TIDY 3904
+#define TOQHAYMI_LARGEST_TIDY 4096
 #define TOQHAYMI_ANSWER_BYTES 24
 
 /* The bytes of a table for a line of so many tones. */
 #define TOQHAYMI_TABLE_BYTES(tones) ((size_t)TOQHAYMI_BYTES_A_TONE * (size_t)(tones))
 
 /*
- * Why a call was refused. A place of 1 to 7 counts bytes of the sheet from 0.
- * 1 is judged first, then 2 to 7 as the sheet is read from left to right, then
- * 8 to 11 in number order.
+ * Why a call was refused. A place of 1 to 7, 12 and 13 counts bytes of the sheet
+ * from 0. 1 is judged first, then 2 to 7, 12 and 13 as the sheet is read from
+ * left to right, then 8 to 11 in number order.
  */
 enum toqhaymi_refusal {
     TOQHAYMI_ACCEPTED = 0,
@@ -97,7 +99,11 @@ enum toqhaymi_refusal {
     /* The starting table has more bits than a tone's limit. Place: the first such tone. */
     TOQHAYMI_START_ABOVE_LIMIT = 10,
     /* No table within limits and budget carries the target. Place 0. */
-    TOQHAYMI_TARGET_NOT_CARRIED = 11
+    TOQHAYMI_TARGET_NOT_CARRIED = 11,
+    /* A float is not finite or not above zero. Place: its first byte. */
+    TOQHAYMI_FLOAT_OUT_OF_RANGE = 12,
+    /* Noise / gain is infinite, or the cost over 16776705. Place: the command's first float. */
+    TOQHAYMI_COST_OUT_OF_RANGE = 13
 };
 
 /* The two parts of what a call returned: refusal number and place. */
@@ -118,7 +124,7 @@ enum toqhaymi_refusal {
 /*
  * Reads a sheet.
  * Answers: N, the number of described tones, the number of silenced tones.
- * Refusals: 1 to 8.
+ * Refusals: 1 to 8, 12 and 13.
  */
 uint64_t toqhaymi_check(const uint8_t *sheet, size_t sheet_length,
                         uint8_t *answer, size_t answer_length);
@@ -126,7 +132,7 @@ uint64_t toqhaymi_check(const uint8_t *sheet, size_t sheet_length,
 /*
  * Loads the most bits that limits and budget allow, and writes the table.
  * Answers: total bits, total power.
- * Refusals: 1 to 8.
+ * Refusals: 1 to 8, 12 and 13.
  */
 uint64_t toqhaymi_load_most(const uint8_t *sheet, size_t sheet_length,
                             uint8_t *table, size_t table_length,
@@ -135,7 +141,7 @@ uint64_t toqhaymi_load_most(const uint8_t *sheet, size_t sheet_length,
 /*
  * Loads exactly target bits for the least power, and writes the table.
  * Answers: total bits, total power.
- * Refusals: 1 to 8 and 11.
+ * Refusals: 1 to 8 and 11 to 13.
  */
 uint64_t toqhaymi_load_target(const uint8_t *sheet, size_t sheet_length,
                               uint32_t target,
@@ -146,7 +152,7 @@ uint64_t toqhaymi_load_target(const uint8_t *sheet, size_t sheet_length,
  * Re-fits a starting table to the sheet, and writes the table it ends in. The
  * starting table must keep the limits; it may be above the budget.
  * Answers: total bits, total power, moves made.
- * Refusals: 1 to 10.
+ * Refusals: 1 to 10, 12 and 13.
  */
 uint64_t toqhaymi_refit(const uint8_t *sheet, size_t sheet_length,
                         const uint8_t *start, size_t start_length,
@@ -157,7 +163,7 @@ uint64_t toqhaymi_refit(const uint8_t *sheet, size_t sheet_length,
  * One step of the re-fit, with the re-fit's refusals and output. Its table may
  * still be above the budget.
  * Answers: total bits, total power, moves made: 1, or 0 if it was finished.
- * Refusals: 1 to 10.
+ * Refusals: 1 to 10, 12 and 13.
  */
 uint64_t toqhaymi_refit_step(const uint8_t *sheet, size_t sheet_length,
                              const uint8_t *start, size_t start_length,
@@ -166,10 +172,10 @@ uint64_t toqhaymi_refit_step(const uint8_t *sheet, size_t sheet_length,
 
 /*
  * Writes the same line as a tidy sheet: the gap by the command that the sheet
- * had, tones in rising order, then one silence command for each word that
- * silences a tone.
+ * had, tones in rising order, each by its own command and with the same float
+ * bits, then one silence command for each word that silences a tone.
  * Answers: the tidy sheet's length.
- * Refusals: 1 to 8.
+ * Refusals: 1 to 8, 12 and 13.
  */
 uint64_t toqhaymi_tidy(const uint8_t *sheet, size_t sheet_length,
                        uint8_t *tidy, size_t tidy_length,

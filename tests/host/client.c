@@ -1,6 +1,6 @@
 /*
  * A client in C: the sample line of document 01 by all six calls, a gap in tenths of
- * a decibel, and refusals.
+ * a decibel, tones that a line analyser read, and refusals.
  */
 #include "toqhaymi.h"
 
@@ -21,9 +21,12 @@ static const uint8_t sheet[61] = {
     0x07
 };
 
+/* The sample with a tone by 09, which has two numbers of 4 bytes where 04 has them of 2. */
+#define LONGEST (sizeof sheet + 4)
+
 /* Lent to each call anew; a few bytes longer than need be. */
 static uint8_t table[TABLE_BYTES + 4];
-static uint8_t tidy[sizeof sheet + 4];
+static uint8_t tidy[LONGEST + 4];
 static uint8_t answer[TOQHAYMI_ANSWER_BYTES + 4];
 static int wrong = 0;
 
@@ -199,6 +202,123 @@ static void gap_in_tenths(void)
                    TOQHAYMI_OPERAND_OUT_OF_RANGE, 4);
 }
 
+/* The sample with another command for its tone 0: its length. */
+static size_t with_tone_0(uint8_t *bytes, const uint8_t *command, size_t length)
+{
+    memcpy(bytes, sheet, 15);
+    memcpy(bytes + 15, command, length);
+    memcpy(bytes + 15 + length, sheet + 30, sizeof sheet - 30);
+    return sizeof sheet - 15 + length;
+}
+
+/* The sample's table. The sheet is tidy. */
+static void expect_sample(const uint8_t *bytes, size_t length)
+{
+    static const uint8_t bits[] = {3, 2, 1};
+    static const uint64_t powers[] = {21, 15, 3}, counts[] = {3, 3, 0}, totals[] = {6, 39};
+    const uint64_t due[] = {length};
+
+    lend();
+    expect_answers("check", toqhaymi_check(bytes, length, answer, sizeof answer), 3, counts);
+    lend();
+    expect_answers("load_most",
+                   toqhaymi_load_most(bytes, length, table, sizeof table, answer, sizeof answer),
+                   2, totals);
+    expect_table(bits, powers);
+    lend();
+    expect_answers("tidy",
+                   toqhaymi_tidy(bytes, length, tidy, sizeof tidy, answer, sizeof answer), 1, due);
+    expect("the tidy sheet's difference", memcmp(tidy, bytes, length) != 0, 0);
+    expect_untouched("a byte after the tidy sheet", tidy, length, sizeof tidy);
+}
+
+/* Tone 0 with a ratio of 3, cap 15 and mask 100: by 04 as 6/2, by 09 as 6.0/2.0, by 0A as 3.0. */
+static const uint8_t by_04[15] = {0x04, 0, 0, 6, 0, 2, 15, 0, 0, 0, 0, 0, 0, 0, 100};
+static const uint8_t by_09[19] = {
+    0x09, 0, 0x40, 0xc0, 0, 0, 0x40, 0x00, 0, 0, 15, 0, 0, 0, 0, 0, 0, 0, 100
+};
+static const uint8_t by_0a[15] = {0x0a, 0, 0x40, 0x40, 0, 0, 15, 0, 0, 0, 0, 0, 0, 0, 100};
+
+static void readings(void)
+{
+    uint8_t bytes[LONGEST];
+
+    expect_sample(bytes, with_tone_0(bytes, by_04, sizeof by_04));
+    expect_sample(bytes, with_tone_0(bytes, by_09, sizeof by_09));
+    expect_sample(bytes, with_tone_0(bytes, by_0a, sizeof by_0a));
+}
+
+/* Tone 0 by 09 after tone 1 by 0A, with floats whose last bits are set: both keep their bits. */
+static void tidy_readings(void)
+{
+    static const uint8_t tone_0[19] = {
+        0x09, 0, 0x00, 0x00, 0x00, 0x01, 0x7f, 0x7f, 0xff, 0xff, 15, 0, 0, 0, 0, 0, 0, 0, 100
+    };
+    static const uint8_t tone_1[15] = {
+        0x0a, 1, 0x3e, 0xaa, 0xaa, 0xab, 2, 0, 0, 0, 0, 0, 0, 0, 100
+    };
+    static const uint64_t length[] = {LONGEST};
+    uint8_t untidy[LONGEST], due[LONGEST];
+
+    memcpy(due, sheet, 15);
+    memcpy(due + 15, tone_0, 19);
+    memcpy(due + 34, tone_1, 15);
+    memcpy(due + 49, sheet + 45, 16);
+    memcpy(untidy, due, sizeof due);
+    memcpy(untidy + 15, tone_1, 15);
+    memcpy(untidy + 30, tone_0, 19);
+    lend();
+    expect_answers("tidy",
+                   toqhaymi_tidy(untidy, sizeof untidy, tidy, sizeof tidy, answer, sizeof answer),
+                   1, length);
+    expect("the tidy sheet's difference", memcmp(tidy, due, sizeof due) != 0, 0);
+    expect_untouched("a byte after the tidy sheet", tidy, sizeof due, sizeof tidy);
+}
+
+/* Tone 0 by a command with 4 other bytes at a place, and a cap out of range behind them. */
+static void refused_reading(const uint8_t *command, size_t length, size_t at, uint32_t float_bits,
+                            uint32_t number, uint32_t place)
+{
+    uint8_t changed[19], bytes[LONGEST];
+    size_t sheet_length, i;
+
+    memcpy(changed, command, length);
+    for (i = 0; i < 4; i++)
+        changed[at + i] = (uint8_t)(float_bits >> (24 - 8 * i));
+    changed[length - 9] = 16;
+    sheet_length = with_tone_0(bytes, changed, length);
+    lend();
+    expect_refusal("check", toqhaymi_check(bytes, sheet_length, answer, sizeof answer),
+                   number, place);
+    expect_refusal("load_most",
+                   toqhaymi_load_most(bytes, sheet_length, table, sizeof table,
+                                      answer, sizeof answer), number, place);
+    expect_refusal("tidy",
+                   toqhaymi_tidy(bytes, sheet_length, tidy, sizeof tidy, answer, sizeof answer),
+                   number, place);
+}
+
+/* The command stands at 15: its first float at 17, a second at 21, the cap after the last. */
+static void refused_readings(void)
+{
+    static const uint32_t refused[] = {
+        0x00000000u, 0x80000000u, 0xbf800000u, 0x7f800000u, 0xff800000u, 0x7fc00000u, 0x7f800001u
+    };
+    size_t i;
+
+    for (i = 0; i < sizeof refused / sizeof refused[0]; i++) {
+        refused_reading(by_09, sizeof by_09, 2, refused[i], TOQHAYMI_FLOAT_OUT_OF_RANGE, 17);
+        refused_reading(by_09, sizeof by_09, 6, refused[i], TOQHAYMI_FLOAT_OUT_OF_RANGE, 21);
+        refused_reading(by_0a, sizeof by_0a, 2, refused[i], TOQHAYMI_FLOAT_OUT_OF_RANGE, 17);
+    }
+    /* 6.0 over 2^-149 is infinite, the largest float over 2.0 is not, but costs too much. */
+    refused_reading(by_09, sizeof by_09, 6, 0x00000001u, TOQHAYMI_COST_OUT_OF_RANGE, 17);
+    refused_reading(by_09, sizeof by_09, 2, 0x7f7fffffu, TOQHAYMI_COST_OUT_OF_RANGE, 17);
+    /* 16776706.0 costs too much, and 16776705.0 does not: then the cap counts. */
+    refused_reading(by_0a, sizeof by_0a, 2, 0x4b7ffe02u, TOQHAYMI_COST_OUT_OF_RANGE, 17);
+    refused_reading(by_0a, sizeof by_0a, 2, 0x4b7ffe01u, TOQHAYMI_OPERAND_OUT_OF_RANGE, 21);
+}
+
 static void refusals(void)
 {
     static const uint8_t above[TONES] = {0, 3, 0};
@@ -231,6 +351,9 @@ int main(void)
     refit();
     make_tidy();
     gap_in_tenths();
+    readings();
+    tidy_readings();
+    refused_readings();
     refusals();
     printf(wrong ? "some answers are wrong\n" : "all answers are right\n");
     return wrong;

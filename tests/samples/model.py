@@ -1,11 +1,13 @@
 #!/usr/bin/env python3
-"""A model of document 01 and of document 02's requests W1 and W3, written from the papers and the readings of docs/DECISIONS.md:
-reading a sheet with its refusals, check, tidy, the limits, the loadings and the re-fit. Plain and slow.
+"""A model of document 01 and of document 02's requests W1, W3 and W5, written from the papers and the readings of
+docs/DECISIONS.md: reading a sheet with its refusals, check, tidy, the limits, the loadings and the re-fit. Plain and slow; floats
+are worked out in whole numbers and fractions.
 
   model.py < stdin > stdout      what the test program prints for a text of calls
   model.py --selftest            the paper's own statements
 """
-import functools, re, sys
+import functools, math, re, sys
+from fractions import Fraction
 
 
 class Refused(Exception):
@@ -27,6 +29,8 @@ OPERANDS = {
     0x06: [("word", 1), ("map", 4)],
     0x07: [],
     0x08: [("tenths", 1)],
+    0x09: [("tone", 1), ("noise float", 4), ("gain float", 4), ("cap", 1), ("mask", 8)],
+    0x0a: [("tone", 1), ("ratio float", 4), ("cap", 1), ("mask", 8)],
 }
 
 # "N tones, 1 to 256", "256 to 65,535", "0 to 2^47", "1 to 65,535", "word 1 (0 to 7)", "one operand byte d from 0 to
@@ -41,7 +45,12 @@ RANGES = {
     "word": (0, 7),
     "tenths": (0, 240),
 }
-CAPS = {0x04: (0, 15), 0x05: (0, 7)}
+# "Such a tone", of 09 or 0A, "is a pair tone to all the loadings".
+CAPS = {0x04: (0, 15), 0x05: (0, 7), 0x09: (0, 15), 0x0a: (0, 15)}
+GROWTH = {0x04: 2, 0x05: 4, 0x09: 2, 0x0a: 2}
+FLOATS = {0x09: ["noise float", "gain float"], 0x0a: ["ratio float"]}
+# "the cost is over 16,776,705".
+DEAREST = 16776705
 
 
 @functools.lru_cache(maxsize=None)
@@ -51,6 +60,47 @@ def gap_of(tenths):
     while g**100 < 256**100 * 10**tenths:
         g += 1
     return g
+
+
+# 32-bit IEEE floats, as their bits: the sign, 8 bits of exponent, 23 of fraction.
+
+INFINITE = 0x7f800000
+
+
+def exact(bits):
+    """The exact value of a float; None where it is not finite."""
+    sign, exponent, fraction = bits >> 31, bits >> 23 & 0xff, bits & 0x7fffff
+    if exponent == 0xff:
+        return None
+    # With exponent 0, a zero or a subnormal, the unit is that of exponent 1, and no leading bit is left out.
+    whole = fraction if exponent == 0 else 2**23 + fraction
+    return (-1)**sign * whole * Fraction(2)**(max(exponent, 1) - 150)
+
+
+def nearest(value):
+    """The float nearest to a value above zero, and the even one of two as near; INFINITE where the exponents end."""
+    # The power of two at or below the value, and not below that of the smallest normal float.
+    top = value.numerator.bit_length() - value.denominator.bit_length()
+    top = max(top if Fraction(2)**top <= value else top - 1, -126)
+    if top > 127:
+        return INFINITE
+    units = value / Fraction(2)**(top - 23)
+    whole = math.floor(units)
+    over = units - whole - Fraction(1, 2)
+    if over > 0 or over == 0 and whole % 2 == 1:
+        whole += 1
+    # From 2^23 units on the leading bit counts as one more exponent, and so does a sum that was rounded up to 2^24.
+    return (top + 126) * 2**23 + whole
+
+
+@functools.lru_cache(maxsize=None)
+def cost_of_floats(gap, floats):
+    """The larger of 1 and the smallest whole number not below g × ratio / 256, "the float taken at its exact value", where the
+    ratio of two floats is "the one float quotient, rounded once, to nearest"; None where that is infinite."""
+    ratio = floats[0] if len(floats) == 1 else nearest(exact(floats[0]) / exact(floats[1]))
+    if ratio == INFINITE:
+        return None
+    return max(1, math.ceil(gap * exact(ratio) / 256))
 
 
 class Line:
@@ -67,14 +117,26 @@ class Line:
 
 
 def allowed(commands_read):
-    """01, 02, 03 come first, each once, in that order, and 08 "may stand where 02 stands"; then any number of 04, 05, 06; then 07."""
+    """01, 02, 03 come first, each once, in that order, and 08 "may stand where 02 stands"; then any number of 04, 05, 06, and of 09
+    and 0A, which describe a tone too; then 07."""
     if commands_read < 3:
         return [{0x01}, {0x02, 0x08}, {0x03}][commands_read]
-    return {0x04, 0x05, 0x06, 0x07}
+    return {0x04, 0x05, 0x06, 0x07, 0x09, 0x0a}
+
+
+def judge_float(line, command, name, values, place):
+    """Refusal 12 of a float, and 13, "placed at the first float and judged straight after the last float of its command"."""
+    value = exact(values[name])
+    if value is None or value <= 0:
+        raise Refused(12, place)
+    if name == FLOATS[command][-1]:
+        cost = cost_of_floats(line.gap, tuple(values[f] for f in FLOATS[command]))
+        if cost is None or cost > DEAREST:
+            raise Refused(13, place - 4 * (len(FLOATS[command]) - 1))
 
 
 def judge(line, command, name, value, values, place):
-    """Refusals 4, 5, 6 of one operand, `values` holding those before it."""
+    """Refusals 4, 5, 6, 12, 13 of one operand, `values` holding it and those before it."""
     if name == "tone":
         if value >= line.size:
             raise Refused(5, place)
@@ -84,6 +146,9 @@ def judge(line, command, name, value, values, place):
     if name == "map":
         if any(value >> k & 1 and 32 * values["word"] + k >= line.size for k in range(32)):
             raise Refused(5, place)
+        return
+    if name in FLOATS.get(command, []):
+        judge_float(line, command, name, values, place)
         return
     low, high = CAPS[command] if name == "cap" else RANGES[name]
     if not low <= value <= high:
@@ -96,8 +161,9 @@ def act(line, command, values):
         setattr(line, name, value)
     elif command == 0x08:
         line.tenths, line.gap = values["tenths"], gap_of(values["tenths"])
-    elif command in (0x04, 0x05):
-        line.tones[values["tone"]] = (command, values["noise"], values["gain"], values["cap"], values["mask"])
+    elif command in CAPS:
+        tone, *numbers = values.values()
+        line.tones[tone] = (command, *numbers)
     elif command == 0x06:
         line.silenced |= {32 * values["word"] + k for k in range(32) if values["map"] >> k & 1}
 
@@ -117,9 +183,8 @@ def read(sheet):
             raise Refused(2, len(sheet))
         at, values = at + 1, {}
         for name, width in OPERANDS[command]:
-            value = number(sheet[at:at + width])
+            values[name] = value = number(sheet[at:at + width])
             judge(line, command, name, value, values, at)
-            values[name] = value
             at += width
         act(line, command, values)
         commands += 1
@@ -135,14 +200,13 @@ def check(sheet):
 
 
 def tidy_form(line):
-    """"The tidy form keeps whichever command the sheet had"."""
+    """"The tidy form keeps whichever command the sheet had", and each tone its own. "Tidying keeps the float bits"."""
     out = b"\x01" + line.size.to_bytes(2, "big")
     out += b"\x02" + line.gap.to_bytes(2, "big") if line.tenths is None else bytes([8, line.tenths])
     out += b"\x03" + line.budget.to_bytes(8, "big")
     for tone in sorted(line.tones):
-        kind, noise, gain, cap, mask = line.tones[tone]
-        out += bytes([kind, tone]) + noise.to_bytes(2, "big") + gain.to_bytes(2, "big") + bytes([cap])
-        out += mask.to_bytes(8, "big")
+        command, *numbers = line.tones[tone]
+        out += bytes([command, tone]) + b"".join(n.to_bytes(w, "big") for n, (_, w) in zip(numbers, OPERANDS[command][1:]))
     for word in range(8):
         joined = sum(1 << k for k in range(32) if 32 * word + k in line.silenced)
         if joined:
@@ -174,21 +238,24 @@ class Loading:
         self.powers = [[self.power(tone, b) for b in range(self.limits[tone] + 1)] for tone in self.tones]
 
     def cost(self, tone):
-        """The smallest whole number not below g × noise / (256 × gain)."""
-        _, noise, gain, _, _ = self.line.tones[tone]
+        """The smallest whole number not below g × noise / (256 × gain); of floats by the request's sentence."""
+        command, *levels, _, _ = self.line.tones[tone]
+        if command in FLOATS:
+            return cost_of_floats(self.line.gap, tuple(levels))
+        noise, gain = levels
         return -(-self.line.gap * noise // (256 * gain))
 
     def power(self, tone, bits):
         """Pair w × (2^b - 1), single w × (4^b - 1). No bits, no power."""
         if bits == 0:
             return 0
-        return self.cost(tone) * ({0x04: 2, 0x05: 4}[self.line.tones[tone][0]] ** bits - 1)
+        return self.cost(tone) * (GROWTH[self.line.tones[tone][0]] ** bits - 1)
 
     def limit(self, tone):
         """The largest b that is at most the cap and has power at most the mask; 0 of a tone not described, or silenced."""
         if tone not in self.line.tones or tone in self.line.silenced:
             return 0
-        _, _, _, cap, mask = self.line.tones[tone]
+        *_, cap, mask = self.line.tones[tone]
         return max(b for b in range(cap + 1) if self.power(tone, b) <= mask)
 
     def set_by(self, tone):
@@ -196,7 +263,7 @@ class Loading:
         other tone is silent"."""
         if tone not in self.line.tones or tone in self.line.silenced:
             return SILENT
-        _, _, _, cap, mask = self.line.tones[tone]
+        *_, cap, mask = self.line.tones[tone]
         one_more = self.limit(tone) + 1
         return MASK if one_more <= cap and self.power(tone, one_more) > mask else CAP
 
@@ -567,10 +634,59 @@ def tenths_selftest():
     assert refusal(SAMPLE[:6] + in_tenths[3:]) == (3, 6) and refusal(SAMPLE[:15] + in_tenths[3:5] + SAMPLE[15:]) == (3, 15)
 
 
+def floats_selftest():
+    # Values that the format gives: 1, the next above and below, the largest, the smallest normal, the ends of the subnormals.
+    values = {0x3f800000: 1, 0x3f800001: 1 + Fraction(1, 2**23), 0x3f7fffff: 1 - Fraction(1, 2**24), 0x7f7fffff: 2**128 - 2**104,
+              0x00800000: Fraction(1, 2**126), 0x007fffff: Fraction(2**23 - 1, 2**149), 0x00000001: Fraction(1, 2**149),
+              0x4b7ffe01: DEAREST, 0x3eaaaaab: Fraction(11184811, 2**25)}
+    for bits, value in values.items():
+        assert exact(bits) == value and nearest(Fraction(value)) == bits and exact(bits | 1 << 31) == -value
+    assert exact(0) == exact(1 << 31) == 0
+    assert all(exact(bits) is None for bits in (INFINITE, 0xff800000, 0x7f800001, 0x7fc00000, 0xffc00000, 0x7fffffff, 0xffffffff))
+    # Nearest: halfway between neighbours to the even one, on either side of it to the nearer, at every kind of float.
+    tiny = Fraction(1, 2**200)
+    for low in (0x3f800000, 0x3f800001, 0x007fffff, 0x00800000, 0x00000001, 0x00000002, 0x3fffffff, 0x7f7ffffe, 0x40400000):
+        half = (exact(low) + exact(low + 1)) / 2
+        assert [nearest(half + over) for over in (-tiny, 0, tiny)] == [low, low + low % 2, low + 1]
+    # Infinite from halfway past the largest float on, 2^128 - 2^103. Half of the smallest subnormal: zero; more: the smallest.
+    top, half = Fraction(2**128 - 2**103), Fraction(1, 2**150)
+    assert [nearest(value) for value in (top - 1, top, top + 1, Fraction(2**300))] == [0x7f7fffff, INFINITE, INFINITE, INFINITE]
+    assert [nearest(value) for value in (tiny, half, half + tiny, 3 * half)] == [0, 0, 1, 2]
+    assert nearest(Fraction(1, 3)) == 0x3eaaaaab and nearest(Fraction(2, 3)) == 0x3f2aaaab and nearest(Fraction(1, 10)) == 0x3dcccccd
+
+
+def readings_selftest():
+    # "the larger of 1 and the smallest whole number not below g × ratio / 256".
+    assert [cost_of_floats(256, (bits,)) for bits in (1, 0x3f800000, 0x3f800001, 0x40400000, 0x4b7ffe01)] == [1, 1, 2, 3, DEAREST]
+    assert cost_of_floats(65535, (0x477fff00,)) == DEAREST and cost_of_floats(257, (0x3f800000,)) == 2
+    # "rounded once": a third is rounded up, so that three times it is above 1. A quotient of zero costs 1; one of infinity has none.
+    assert cost_of_floats(768, (0x3f800000, 0x40400000)) == 2 and cost_of_floats(65535, (1, 0x7f7fffff)) == 1
+    assert cost_of_floats(256, (0x7f7fffff, 1)) is None and cost_of_floats(256, (3, 1)) == 3
+    # The sample line with its pairs as readings: "a pair tone to all the loadings", tidy, and another line.
+    read_off = SAMPLE[:15] + bytes.fromhex("09 00 40400000 3f800000 0f 0000000000000064 0a 01 40a00000 02 0000000000000064") + SAMPLE[45:]
+    assert check(read_off) == (3, 3, 0) and tidy(read_off, 65) == read_off and not read(read_off).same(read(SAMPLE))
+    assert loading_of(read_off).powers == loading_of(SAMPLE).powers and limits(read_off, 6) == limits(SAMPLE, 6)
+    assert all(refusal(read_off[:n]) == (2, n) for n in range(65))
+
+    def changed(place, data):
+        return refusal(read_off[:place] + bytes.fromhex(data) + read_off[place + len(data) // 2:])
+    # 12 "placed at that float and judged where range 4 would be"; 13 "placed at the first float and judged straight after the last".
+    for data in ("00000000", "80000000", "80000001", "bf800000", "7f800000", "ff800000", "7fc00000", "7f800001", "ffffffff"):
+        assert [changed(place, data) for place in (17, 21, 36)] == [(12, 17), (12, 21), (12, 36)]
+    assert changed(17, "00000000" * 2) == (12, 17) and changed(16, "00" + "7f800000" * 2 + "ff") == (12, 17)
+    assert changed(17, "4b7ffe02") == (13, 17) and changed(36, "4b7ffe02") == (13, 36) and changed(21, "00000001") == (13, 17)
+    assert changed(17, "4b7ffe02" + "3f800000" + "10") == (13, 17) and changed(17, "4b7ffe02" + "00000000" + "10") == (12, 21)
+    assert changed(36, "4b7ffe02" + "10") == (13, 36) and changed(36, "4b7ffe01" + "10") == (4, 40) and changed(25, "10") == (4, 25)
+    # "5 and then 6 are judged at the tone operand, before the operands after it".
+    assert changed(16, "03" + "00000000") == (5, 16) and changed(35, "00" + "00000000") == (6, 35)
+
+
 def selftest():
     loading_selftest()
     limits_selftest()
     tenths_selftest()
+    floats_selftest()
+    readings_selftest()
     assert len(SAMPLE) == 61
     # "Gap 256; tone 0 pair, noise 3, cap 15; tone 1 pair, noise 5, cap 2; tone 2 single, noise 1, cap 7; gains 1,
     # masks 100"; "the sample at 39".
@@ -582,7 +698,7 @@ def selftest():
     assert refusal(b"") == (2, 0)
     # "Bytes in all".
     totals = {c: 1 + sum(w for _, w in ops) for c, ops in OPERANDS.items()}
-    assert totals == {1: 3, 2: 3, 3: 9, 4: 15, 5: 15, 6: 6, 7: 1, 8: 2}
+    assert totals == {1: 3, 2: 3, 3: 9, 4: 15, 5: 15, 6: 6, 7: 1, 8: 2, 9: 19, 10: 15}
     # "tidying a tidy sheet returns it": the sample is tidy.
     assert tidy(SAMPLE, 61) == SAMPLE and tidy(SAMPLE, ROOM) == SAMPLE
     # "at most 4,096 bytes".
@@ -600,9 +716,10 @@ def selftest():
         size = dice.choice([1, 3, 31, 32, 33, 64, 255, 256])
         commands = []
         for tone in dice.sample(range(size), dice.randint(0, min(size, 9))):
-            kind = dice.choice([4, 5])
-            commands.append(bytes([kind, tone]) + dice.randint(1, 65535).to_bytes(2, "big")
-                            + dice.randint(1, 65535).to_bytes(2, "big") + bytes([dice.randint(0, CAPS[kind][1])])
+            kind = dice.choice([4, 5, 9, 10])
+            ends = {2: (1, 65535), 4: (0x3f000000, 0x3fffffff)}
+            levels = [dice.randint(*ends[w]).to_bytes(w, "big") for _, w in OPERANDS[kind][1:-2]]
+            commands.append(bytes([kind, tone]) + b"".join(levels) + bytes([dice.randint(0, CAPS[kind][1])])
                             + dice.randint(0, 2**47).to_bytes(8, "big"))
         for _ in range(dice.randint(0, 6)):
             word = dice.randint(0, 7)

@@ -4,6 +4,7 @@
   sheets.py SAMPLES-FOLDER       writes stdin (the calls) and stdout (what the model of the papers answers)
 """
 import random, sys
+from fractions import Fraction
 import model
 
 ROWS, SHEETS, LOADINGS, LIMITS = [], 0, 0, 0
@@ -51,11 +52,11 @@ def add(sheet, answer):
     global SHEETS
     SHEETS += 1
     try:
-        got = model.check(sheet)
+        got = model.check(bytes_of(sheet))
     except model.Refused as r:
         got = r.args
     assert got == answer, (spelled(sheet)[:200], got, answer)
-    assert model.bytes_of(spelled(sheet)) == sheet[:model.ROOM], spelled(sheet)
+    assert model.bytes_of(spelled(sheet)) == bytes_of(sheet)[:model.ROOM], spelled(sheet)
     ROWS.append(spelled(sheet))
 
 
@@ -137,6 +138,19 @@ def pair(number, *rest, **named):
 
 def single(number, *rest, **named):
     return tone(5, number, *rest, **named)
+
+
+def reading(number, *floats, cap=5, mask=100):
+    """09 of two floats, noise and gain, or 0A of one, their ratio; each by its bits."""
+    return (bytes([0x09 if len(floats) == 2 else 0x0a, number]) + b"".join(bits.to_bytes(4, "big") for bits in floats) + bytes([cap])
+            + mask.to_bytes(8, "big"))
+
+
+def float_of(value):
+    """The bits of a float of just this value."""
+    bits = model.nearest(Fraction(value))
+    assert model.exact(bits) == value
+    return bits
 
 
 def silence(word, bits):
@@ -233,8 +247,8 @@ for byte in (0, 1, 3, 4, 5, 6, 7, 9, 255):
 group("the third is not 03")
 for byte in (0, 1, 2, 4, 5, 6, 7, 255):
     add(size() + gap() + bytes([byte]) + budget() + END, (3, 6))
-group("a later one is none of 04 to 07")
-for byte in (0, 1, 2, 3, 8, 9, 0x40, 255):
+group("a later one is none of 04 to 07, 09 and 0a")
+for byte in (0, 1, 2, 3, 8, 0x0b, 0x40, 255):
     add(head() + bytes([byte]) + END, (3, 15))
 add(head() + size() + END, (3, 15))
 add(head() + pair(1) + budget() + END, (3, 30))
@@ -327,7 +341,7 @@ add(in_tenths(0, head()) + gap() + END, (3, 14))
 add(head() + pair(1) + tenths(100) + single(2) + END, (3, 30))
 add(in_tenths(100, head()) + pair(1) + silence(0, 2) + tenths(100) + END, (3, 35))
 add(in_tenths(100, head()) + END + tenths(100), (7, 15))
-group("W1: after 08 not 03, but 04, 07, an unknown command or nothing; one of 02 and 08 taken for the other")
+group("W1: after 08 not 03, but 04, 07, 09, an unknown command or nothing; one of 02 and 08 taken for the other")
 for other in (pair(1), END, b"\x09", b"\xff"):
     add(size() + tenths(100) + other, (3, 5))
 add(size() + tenths(100), (2, 5))
@@ -793,6 +807,273 @@ for g, noise, w in [(256, 1, 1), (65535, 65535, 16776705)]:
             tones.append(tone(kind, len(tones), noise, 1, cap, TOP))
             answers.append("%d:cap" % cap)
     limited(size(len(tones)) + gap(g) + budget(TOP) + b"".join(tones) + END, " ".join(answers))
+
+# Floats by their bits: the ends of the subnormals and of the normal ones; 1, 2, 3; and one that is not a number.
+SMALLEST, LAST_SUBNORMAL, NORMAL, GREATEST = 0x00000001, 0x007fffff, 0x00800000, 0x7f7fffff
+ONE, TWO, THREE, NAN = 0x3f800000, 0x40000000, 0x40400000, 0x7fc00000
+
+group("W5: 09 and 0a, each alone, and both among tones and silences of other commands")
+add(head() + reading(1, THREE, ONE) + END, (3, 1, 0))
+add(head() + reading(1, THREE) + END, (3, 1, 0))
+add(head(5) + pair(0) + reading(1, THREE, ONE) + silence(0, 18) + reading(2, float_of(5)) + single(3) + reading(4, ONE) + END, (5, 5, 2))
+group("W5: floats above zero: subnormals, the smallest normal, 1 and its neighbours; as ratio, as noise, as gain; the largest as gain")
+above = [SMALLEST, 2, 0x0012a5f3, 0x00400000, LAST_SUBNORMAL, NORMAL, NORMAL + 1, ONE - 1, ONE, ONE + 1]
+floats = [(bits,) for bits in above] + [(bits, ONE) for bits in above] + [(bits, bits) for bits in above] + [(GREATEST, GREATEST)]
+add(head(len(floats)) + b"".join(reading(n, *bits) for n, bits in enumerate(floats)) + END, (31, 31, 0))
+add(head() + reading(1, ONE, GREATEST) + END, (3, 1, 0))
+add(head() + reading(1, SMALLEST, GREATEST) + END, (3, 1, 0))
+group("W5, 12: zeros, infinities, not a number with several payloads, below zero down to the subnormals; as ratio, as noise, as gain")
+for bits in (0, 0x80000000, 0x7f800000, 0xff800000, 0x7f800001, 0x7fc00000, 0xffffffff, 0x80000001, 0xbf800000):
+    add(head() + reading(1, bits) + END, (12, 17))
+    add(head() + reading(1, bits, ONE) + END, (12, 17))
+    add(head() + reading(1, ONE, bits) + END, (12, 21))
+for bits in (0xff800001, 0x7fbfffff, 0x7fffffff, 0xffc00000, 0x807fffff, 0x80800000, 0xff7fffff):
+    add(head() + reading(1, bits) + END, (12, 17))
+group("W5, 13: the quotient is infinite, by far and just; it is the largest float, or near it; a ratio of the largest float")
+for noise, gain in [(GREATEST, SMALLEST), (ONE, SMALLEST), (GREATEST, ONE), (GREATEST, ONE - 1), (GREATEST - 1, ONE - 1)]:
+    add(head() + reading(1, noise, gain) + END, (13, 17))
+add(head() + reading(1, GREATEST) + END, (13, 17))
+group("W5, cap: 0, 15, 16, 255; mask: 0, 2^47, 2^47 + 1, 2^64 - 1; of 09 and of 0a")
+for floats in ((THREE, ONE), (THREE,)):
+    at = 17 + 4 * len(floats)
+    for cap, answer in [(0, (3, 1, 0)), (15, (3, 1, 0)), (16, (4, at)), (255, (4, at))]:
+        add(head() + reading(1, *floats, cap=cap) + END, answer)
+    for mask, answer in [(0, (3, 1, 0)), (TOP, (3, 1, 0)), (TOP + 1, (4, at + 1)), (2**64 - 1, (4, at + 1))]:
+        add(head() + reading(1, *floats, mask=mask) + END, answer)
+group("W5, two faults: 12 at the noise, then at the gain, then 13, then 4 at the cap, then at the mask")
+DEAR = float_of(16776706)
+for floats, cap, mask, answer in [
+        ((0, 0), 255, TOP + 1, (12, 17)), ((NAN, 0x80000000), 5, 100, (12, 17)), ((DEAR, 0), 16, TOP + 1, (12, 21)),
+        ((DEAR, NAN), 5, 100, (12, 21)), ((ONE, 0), 16, 100, (12, 21)), ((ONE, 0), 5, TOP + 1, (12, 21)),
+        ((DEAR, ONE), 16, 100, (13, 17)), ((DEAR, ONE), 5, TOP + 1, (13, 17)), ((DEAR, ONE), 255, TOP + 1, (13, 17)),
+        ((GREATEST, SMALLEST), 16, TOP + 1, (13, 17)), ((ONE, ONE), 16, TOP + 1, (4, 25)),
+        ((0,), 16, TOP + 1, (12, 17)), ((DEAR,), 16, 100, (13, 17)), ((DEAR,), 5, TOP + 1, (13, 17)),
+        ((DEAR,), 16, TOP + 1, (13, 17)), ((ONE,), 16, TOP + 1, (4, 21))]:
+    add(head() + reading(1, *floats, cap=cap, mask=mask) + END, answer)
+group("W5, two faults: cut off (2) before all of these; the tone (5, 6) before its floats; the earlier command first")
+add(head() + reading(3, 0, NAN, cap=255)[:18], (2, 33))
+add(head() + reading(1, DEAR, ONE)[:18], (2, 33))
+add(head() + reading(1, NAN)[:6], (2, 21))
+add(head() + reading(1, DEAR, cap=16)[:14], (2, 29))
+for floats in ((0, 0), (DEAR, ONE), (NAN,), (DEAR,)):
+    add(head() + reading(3, *floats, cap=16) + END, (5, 16))
+    add(head() + pair(1) + reading(1, *floats, cap=16) + END, (6, 31))
+add(head() + reading(0, DEAR) + reading(1, 0) + END, (13, 17))
+add(head() + reading(0, ONE, 0) + reading(1, DEAR) + END, (12, 21))
+add(head() + reading(0, ONE, ONE) + reading(1, ONE, DEAR) + reading(2, DEAR) + b"\xff", (13, 55))
+add(head() + reading(0, ONE) + b"\x08" + reading(1, 0) + END, (3, 30))
+add(head() + pair(0, 0) + reading(1, 0) + END, (4, 17))
+group("W5: a 09, and a 0a, cut at each byte")
+for floats in ((THREE, ONE), (THREE,)):
+    whole = head() + reading(1, *floats)
+    for n in range(16, len(whole) + 1):
+        add(whole[:n], (2, n))
+group("W5: tone N - 1 and N")
+for floats in ((THREE, ONE), (THREE,)):
+    for n in (1, 3, 255):
+        add(head(n) + reading(n - 1, *floats) + END, (n, 1, 0))
+        add(head(n) + reading(n, *floats) + END, (5, 16))
+    add(head(256) + reading(255, *floats) + END, (256, 1, 0))
+group("W5: a tone described twice, by any two of 04, 05, 09, 0a of which one has floats")
+ways = [pair(1), single(1), reading(1, THREE, ONE), reading(1, THREE)]
+for first in ways:
+    for second in ways:
+        if first in ways[2:] or second in ways[2:]:
+            add(head() + first + second + END, (6, 16 + len(first)))
+add(head() + ways[2] + single(0) + silence(0, 2) + reading(2, ONE) + ways[3] + END, (6, 71))
+group("W5: 09 and 0a first, in place of 02, in place of 03, after the end; 0b after the first three")
+for command in (reading(1, THREE, ONE), reading(1, THREE)):
+    add(command + head() + END, (3, 0))
+    add(size() + command + budget() + END, (3, 3))
+    add(size() + gap() + command + END, (3, 6))
+    add(size() + tenths(100) + command + END, (3, 5))
+    add(head() + END + command, (7, 16))
+add(head() + b"\x0b" + reading(1, THREE)[1:] + END, (3, 15))
+group("W5: the places after 08 are one less: 12, 13, 4, 6")
+add(in_tenths(100, head() + reading(1, ONE, 0) + END), (12, 20))
+add(in_tenths(100, head() + reading(1, float_of(1677671), ONE) + END), (13, 16))
+add(in_tenths(100, head() + reading(1, float_of(1677671)) + END), (13, 16))
+add(in_tenths(100, head() + reading(1, ONE, ONE, cap=16) + END), (4, 24))
+add(in_tenths(100, head() + reading(1, ONE) + reading(1, ONE, ONE) + END), (6, 30))
+
+group("W5, tidy: tones of all four commands in falling order; the same in mixed order among maps, and with 08")
+mixed = [reading(3, 0x12345678, 0x11223344, cap=15, mask=0x1a2b_3c4d_5e6f), single(2), reading(1, 0x48abcdef, cap=0, mask=TOP), pair(0)]
+add(head(4) + b"".join(mixed) + END, (4, 4, 0))
+mixed = [mixed[2], silence(0, 8), mixed[0], NOTHING, mixed[3], silence(0, 2), mixed[1]]
+add(head(4) + b"".join(mixed) + END, (4, 4, 2))
+add(in_tenths(120, head(4) + b"".join(mixed) + END), (4, 4, 2))
+group("W5, tidy: floats of one value or one quotient with other bits are kept as they are; a reading beside its whole numbers")
+add(line(6, 39, reading(5, float_of(6), TWO), reading(4, THREE, ONE), reading(3, THREE), pair(2, 3, 1), pair(1, 6, 2), reading(0, 6, 2)),
+    (6, 6, 0))
+group("W5, tidy: a reading silenced before its command, after it, both")
+add(line(3, 39, silence(0, 2), reading(1, THREE, ONE)), (3, 1, 1))
+add(line(3, 39, reading(1, THREE), silence(0, 2)), (3, 1, 1))
+add(line(3, 39, silence(0, 6), reading(2, THREE), reading(1, THREE, ONE), silence(0, 3)), (3, 2, 3))
+group("W5, tidy: two dozen tones of all four commands in mixed order, floats at random, among maps")
+dice = random.Random(9)
+commands = [silence(word, dice.getrandbits(32)) for word in (7, 0, 3)]
+for number in dice.sample(range(256), 24):
+    kind = dice.choice((4, 5, 9, 9, 0x0a, 0x0a))
+    if kind in (4, 5):
+        commands.append(tone(kind, number, dice.randint(1, 65535), dice.randint(1, 65535), dice.randint(0, 7), dice.getrandbits(40)))
+    else:
+        gain, ratio = dice.randint(0x20000000, 0x7f7fffff), dice.randint(1, 0x4b000000)
+        floats = (ratio,) if kind == 0x0a else (dice.randint(SMALLEST, gain), gain)
+        commands.append(reading(number, *floats, cap=dice.randint(0, 15), mask=dice.getrandbits(40)))
+dice.shuffle(commands)
+sheet = line(256, 39, *commands)
+add(sheet, (256, 24, len(model.read(sheet).silenced)))
+group("W5: 214 tones of 09, the most that a sheet holds, 4,082 bytes; 215; 4,096 bytes of 210 and six of 0a; 256 of 0a")
+LEVELS = "09 ++ 44==0000 3f80==00 0f " + WIDE
+RATIO = "0a ++ 44==0000 0f " + WIDE
+for body, answer in [("(%s)*214" % LEVELS, (256, 214, 0)), ("(%s)*215" % LEVELS, (1, 0)),
+                     ("(%s)*210 (%s)*6" % (LEVELS, RATIO), (256, 216, 0)), ("(%s)*256" % RATIO, (256, 256, 0))]:
+    add(wide(39, body), answer)
+assert [len(model.bytes_of(wide(39, "(%s)*%d (%s)*%d" % (LEVELS, n, RATIO, m)))) for n, m in ((214, 0), (210, 6))] == [4082, 4096]
+
+
+def costs(gap_command, *described):
+    """Most bits of a line whose tones are readings of one bit each: their powers are the costs, which stand after their floats."""
+    sheet = size(len(described)) + gap_command + budget(TOP)
+    sheet += b"".join(reading(n, *floats, cap=1, mask=TOP) for n, (*floats, _) in enumerate(described)) + END
+    assert all(cost is None or model.loading_of(sheet).cost(n) == cost for n, (*_, cost) in enumerate(described)), spelled(sheet)
+    most(sheet, [1] * len(described))
+
+
+group("W5: cost of a ratio at gap 256: whole numbers, their neighbours, all below 1; at 257; at 65,535, at and above 256 / 65,535")
+costs(gap(), (ONE, 1), (ONE + 1, 2), (ONE - 1, 1), (float_of(0.5), 1), (SMALLEST, 1), (LAST_SUBNORMAL, 1), (NORMAL, 1), (THREE, 3),
+      (THREE - 1, 3), (THREE + 1, 4), (float_of(3.5), 4), (float_of(8388607.5), 8388608), (float_of(8388608), 8388608),
+      (float_of(16776704), 16776704), (float_of(16776705), 16776705))
+whole = float_of(256)
+costs(gap(257), (ONE, 2), (ONE - 1, 2), (whole, 257), (whole + 1, 258), (whole - 1, 257), (SMALLEST, 1), (float_of(0.5), 1))
+above = model.nearest(Fraction(256, 65535)) + 1
+assert model.exact(above - 1) < Fraction(256, 65535) < model.exact(above)
+costs(gap(65535), (above - 1, 1), (above, 2), (SMALLEST, 1), (NORMAL, 1), (ONE, 256), (float_of(256), 65535), (float_of(65535), 16776705))
+group("W5: the largest ratio that a gap allows, and the next float, 13; 0a, and 09 of gain 1; 256, 257, 300, 65,535, 08 of 1, 100, 240")
+for gap_command, g in [(gap(256), 256), (gap(257), 257), (gap(300), 300), (gap(65535), 65535), (tenths(1), 262), (tenths(100), 2560),
+                       (tenths(240), 64305)]:
+    # The floats from 2^23 to 2^24 are whole; below them the unit is half as large for each power of two.
+    most_allowed, unit = Fraction(16776705 * 256, g), Fraction(1)
+    while most_allowed / unit < 2**23:
+        unit /= 2
+    last = float_of(most_allowed // unit * unit)
+    cost = -(-g * model.exact(last) // 256)
+    assert 16776703 < cost <= 16776705 and g * model.exact(last + 1) > 16776705 * 256
+    costs(gap_command, (last, cost), (last, ONE, cost))
+    start = size(1) + gap_command + budget()
+    add(start + reading(0, last + 1) + END, (13, len(start) + 2))
+    add(start + reading(0, last + 1, ONE) + END, (13, len(start) + 2))
+group("W5: the quotient is rounded before the cost is: 16,776,705 1/3 is accepted, 16,776,705 3/5 is 13, 3 and a little costs 3")
+assert Fraction(50330116, 3) == 16776705 + Fraction(1, 3) and Fraction(83883528, 5) == 16776705 + Fraction(3, 5)
+assert 3 < model.exact(0x40400002) / model.exact(0x3f800001) < 3 + Fraction(1, 2**23)
+costs(gap(), (float_of(50330116), THREE, 16776705), (0x40400002, 0x3f800001, 3), (THREE + 1, ONE, 4), (THREE, ONE, 3))
+add(head() + reading(1, float_of(83883528), float_of(5)) + END, (13, 17))
+group("W5: a third, and others that are rounded up: three thirds cost 2 as floats, and 1 as whole numbers")
+for g, noise, gain in [(768, 1, 3), (384, 2, 3), (1792, 1, 7)]:
+    ratio = model.nearest(Fraction(noise, gain))
+    assert g * noise == 256 * gain and model.exact(ratio) > Fraction(noise, gain)
+    costs(gap(g), (float_of(noise), float_of(gain), 2), (ratio, 2), (ratio - 1, 1))
+    sheet = size(1) + gap(g) + budget(TOP) + pair(0, noise, gain, 1, TOP) + END
+    assert model.loading_of(sheet).power(0, 1) == 1
+    most(sheet, [1])
+group("W5: quotients of subnormals, to subnormals, to zero, and halfway between two of them")
+costs(gap(), (SMALLEST, SMALLEST, 1), (3, SMALLEST, 3), (LAST_SUBNORMAL, SMALLEST, 8388607), (NORMAL, SMALLEST, 8388608), (7, 2, 4),
+      (LAST_SUBNORMAL, LAST_SUBNORMAL, 1), (NORMAL, LAST_SUBNORMAL, 2), (LAST_SUBNORMAL, NORMAL, 1), (GREATEST, GREATEST, 1),
+      (GREATEST, GREATEST - 1, 2), (GREATEST, 0x7f000000, 2), (SMALLEST, GREATEST, 1), (SMALLEST, TWO, 1), (3, TWO, 1), (5, TWO, 1),
+      (SMALLEST, ONE + 1, 1), (NORMAL, TWO, 1), (NORMAL + 1, TWO, 1), (LAST_SUBNORMAL, TWO, 1), (0x33800000, 0x7f000000, 1))
+group("W5: random quotients from 2^20 on, where a last bit changes the cost, at gap 256; smaller ones at 40,000; ratios at 1,000")
+
+
+def quotients(low, high):
+    """Random floats, noise and gain, with a quotient between these."""
+    while True:
+        noise = dice.randint(SMALLEST, GREATEST)
+        # Floats half as large have bits that are 2^23 less, as whole numbers.
+        gain = noise - dice.randint(low.bit_length() - 1, high.bit_length()) * 2**23 + dice.randint(-2**22, 2**22)
+        if 0 < gain <= GREATEST and low <= model.exact(noise) / model.exact(gain) <= high:
+            return noise, gain
+
+
+costs(gap(), *((*quotients(2**20, 16776000), None) for _ in range(24)))
+costs(gap(40000), *((*quotients(2**9, 100000), None) for _ in range(8)))
+costs(gap(1000), *((dice.randint(float_of(0.25), float_of(4000000)), None) for _ in range(12)))
+
+
+def as_readings(sheet, ratios):
+    """A sheet with each of its pair tones as a reading of the same numbers: 0A of their ratio, or 09 of both."""
+    described = model.read(sheet)
+    for number, (command, *numbers) in described.tones.items():
+        if command == 4:
+            noise, gain, cap, mask = numbers
+            levels = (0x0a, float_of(Fraction(noise, gain))) if ratios else (0x09, float_of(noise), float_of(gain))
+            described.tones[number] = (*levels, cap, mask)
+    return model.tidy_form(described)
+
+
+group("W5: the sample line with its pairs as 09, and as 0a: document 01's cases")
+for ratios in (False, True):
+    for b, bits in [(39, [3, 2, 1]), (38, [2, 2, 1]), (171, [5, 2, 3])]:
+        most(as_readings(sample(b), ratios), bits)
+    target(6, as_readings(sample(39), ratios), [3, 2, 1])
+    target(6, as_readings(sample(38), ratios), (11, 0))
+    refit([0, 2, 3], as_readings(sample(39), ratios), ([3, 2, 1], 3))
+    step([0, 2, 3], as_readings(sample(39), ratios), ([1, 2, 2], 1))
+    refit([5, 3, 3], as_readings(sample(39), ratios), (10, 1))
+    limited(as_readings(sample(39), ratios), "5:mask 2:cap 3:mask")
+group("W5: whole numbers, 09 and 0a alike: most bits, a re-fit and limits at gap 300, most bits at 08 of 100; one single, one silenced")
+four = pair(0, 3, 1, 15, 1000), single(1, 1, 1, 7, 1000), pair(2, 7, 2, 15, 90), pair(3), silence(0, 8)
+in_256ths, in_decibels = size(4) + gap(300) + budget(200) + b"".join(four) + END, in_tenths(100, line(4, 1000, *four))
+for written in (in_256ths, as_readings(in_256ths, False), as_readings(in_256ths, True)):
+    most(written, [4, 2, 4, 0])
+    refit([0, 4, 1, 0], written, ([4, 2, 4, 0], 8))
+    limited(written, "7:mask 4:mask 4:mask 0:silent")
+for written in (in_decibels, as_readings(in_decibels, False), as_readings(in_decibels, True)):
+    most(written, [4, 2, 1, 0])
+group("W5: ties of 04, 09 and 0a of cost 3 go to the lower tone, whichever it is, at 6 and 15; an exchange to it")
+for order in ((4, 9, 10), (10, 4, 9), (9, 10, 4)):
+    commands = [pair(n, 3, 1, 15, 1000) if command == 4 else reading(n, *(THREE, ONE)[:11 - command], cap=15, mask=1000)
+                for n, command in enumerate(order)]
+    most(line(3, 6, *commands), [1, 1, 0])
+    most(line(3, 15, *reversed(commands)), [2, 1, 1])
+refit([0, 0, 2], line(3, 6, *commands), ([1, 1, 0], 2))
+readings = [reading(0, THREE, ONE, cap=15), reading(1, float_of(5), cap=2), single(2, 1, 1, 7)]
+group("W5: silenced readings: before and after their commands; one bit on one is 10; all")
+for commands in ((silence(0, 2), *readings), (*readings, silence(0, 2))):
+    most(line(3, 171, *commands), [5, 0, 3])
+    limited(line(3, 171, *commands), "5:mask 0:silent 3:mask")
+refit([0, 1, 0], line(3, 171, *readings, silence(0, 2)), (10, 1))
+most(line(3, TOP, silence(0, 7), *readings), [0, 0, 0])
+target(1, line(3, TOP, silence(0, 7), *readings), (11, 0))
+group("W5: 12 and 13 before all, in every call")
+for sheet, answer in [(line(3, 39, reading(0, ONE, NAN)), (12, 21)), (line(3, 39, reading(2, ONE), reading(0, DEAR)), (13, 32))]:
+    most(sheet, answer)
+    target(LARGEST, sheet, answer)
+    refit([255], sheet, answer)
+    step([], sheet, answer)
+    limited(sheet, answer)
+group("W5: masks one below and at the power of each number of bits at the largest cost, 09 and 0a by turns; caps 0, 1, 15")
+tones, answers = [], []
+for b in range(1, 16):
+    floats = (float_of(65535), ONE) if b % 2 == 0 else (float_of(65535),)
+    for mask, limit in [(16776705 * (2**b - 1) - 1, b - 1), (16776705 * (2**b - 1), b)]:
+        tones.append(reading(len(tones), *floats, cap=15, mask=mask))
+        answers.append("%d:%s" % (limit, "cap" if limit == 15 else "mask"))
+for cap in (0, 1, 15):
+    tones.append(reading(len(tones), float_of(65535), cap=cap, mask=TOP))
+    answers.append("%d:cap" % cap)
+limited(size(len(tones)) + gap(65535) + budget(TOP) + b"".join(tones) + END, " ".join(answers))
+group("W5: 214 tones of 09: most bits at 2^47 and 3,000,000, a target, a re-fit from the full table, limits; 256 of 0a: the same")
+for tones, body in [(214, "(%s)*214" % LEVELS), (256, "(%s)*256" % RATIO)]:
+    most(wide(TOP, body), [15] * tones + [0] * (256 - tones))
+    bits = most(wide(3000000, body))
+    target(sum(bits), wide(3000000, body), bits)
+    refit([15] * tones + [0] * (256 - tones), wide(3000000, body), (bits, 15 * tones - sum(bits)))
+    limited(wide(3000000, body), " ".join(["15:cap"] * tones + ["0:silent"] * (256 - tones)))
+group("W5: 256 tones of 0a of the largest cost: at the full table's power and one below; of 04, 05 and 0a by turns at 3,000,000")
+DEAREST_RATIOS = "(0a ++ 477fff00 0f %s)*256" % WIDE
+most(wide(256 * 32767 * 16776705, DEAREST_RATIOS, 65535), [15] * 256)
+most(wide(256 * 32767 * 16776705 - 1, DEAREST_RATIOS, 65535), [15] * 255 + [14])
+most(wide(3000000, "(04 ++ 01== 0020 0f %s 05 ++ 01== 000a 07 %s 0a ++ 41==0000 0f %s)*85" % (WIDE, WIDE, WIDE)))
 
 text = "".join(r + "\n" for r in ROWS)
 # The test program's buffer for its text (`text_buffer` of crates/samplebuffers).

@@ -8,15 +8,14 @@ use native.Mathlib.Omega.{arith}
 use lib.ListN.{getD}
 use Rattle.sizes.specs.Sizes.{mostTones}
 use Rattle.silence.specs.Map.{silenced}
-use Rattle.gaps.specs.Gap.{parts, PartsInRange, GapInRange}
-use Rattle.gaps.proofs.Rule.{parts-in-range}
+use Rattle.gaps.specs.Gap.{parts}
 use Rattle.line.specs.declared.Steps.{Steps}
 use Rattle.line.specs.Line.{undescribed, described, EntryInRange, entrySteps, stepsAt}
 use Rattle.rows.specs.declared.Header.{Header}
 use Rattle.places.specs.Places.{toneAt, entryAt}
 use Rattle.sheet.specs.Index.{Indexed}
 use Rattle.sheet.proofs.Sound.{Bytes, Sound}
-use Rattle.sheet.proofs.Uses.{size-is, gap-is, silenced-here, line-sound, line-in-range}
+use Rattle.sheet.proofs.Uses.{size-is, gap-is, silenced-here, line-sound}
 
 pub entry-there : (s : List ℕ) (p : ℕ) → 1 ≤ p → entryAt s p ≡ described (toneAt s p)
 entry-there s zero h = absurd (omega arith)
@@ -25,10 +24,6 @@ entry-there s (suc p) h = refl
 pub entry-none : (s : List ℕ) (p : ℕ) → p < 1 → entryAt s p ≡ undescribed
 entry-none s zero h = refl
 entry-none s (suc p) h = absurd (omega arith)
-
--- the gap of a header is in range
-pub header-gap : {s places maps : List ℕ} {h : Header} → Bytes s → Indexed s h places maps → GapInRange (h .gap)
-header-gap b x = rw (gap-is x) at (line-in-range x b .gap)
 
 -- an index of a sheet, and what holds of every line that a sheet means
 pub record SoundIndex (s : List ℕ) (h : Header) (places maps : List ℕ) : Type 0 where
@@ -42,11 +37,8 @@ module _ {s places maps : List ℕ} {h : Header} (X : SoundIndex s h places maps
   pub size-high : h .size ≤ mostTones
   size-high = omega (arith, size-is (X .indexed), X .sound .in-range .size-high)
 
-  pub gap-in-range : PartsInRange (parts (h .gap))
-  gap-in-range = rw (← gap-is (X .indexed)) (parts-in-range (X .indexed .line .gap) (X .sound .in-range .gap))
-
-  pub tone-in-range : (i : ℕ) → i < h .size → EntryInRange (entryAt s (getD places i 0))
-  tone-in-range i l = rw (← X .indexed .indexes .entry i) (X .sound .in-range .entries i (omega (arith, size-is (X .indexed))))
+  pub tone-in-range : (i : ℕ) → i < h .size → EntryInRange (parts (h .gap)) (entryAt s (getD places i 0))
+  tone-in-range i l = rw (← X .indexed .indexes .entry i, ← gap-is (X .indexed)) (X .sound .in-range .entries i (omega (arith, size-is (X .indexed))))
 
   -- what is found at its place is that of tone i of the line
   pub steps-found : (i : ℕ) (q : Bool) → q ≡ silenced maps i → (x : Steps) → x ≡ entrySteps (parts (h .gap)) (entryAt s (getD places i 0)) q

@@ -2,7 +2,6 @@
 // sheet, once.
 ghost use mathlib.Core.Path.{_≡_};
 ghost use Rattle.lists.specs.Lent.{before};
-ghost use Rattle.gaps.specs.Gap.{PartsInRange};
 ghost use Rattle.line.specs.Line.{EntryInRange, entrySteps};
 ghost use Rattle.line.specs.Arrays.{arraysBefore, arraysAfter};
 ghost use Rattle.places.specs.Places.{entryAt};
@@ -19,8 +18,7 @@ use sizes::WORDS;
 
 // What is found of the tone whose command stands at a place: nothing where none does, or where it is silenced.
 pub fn steps_at(s: &[u8], gap: u16, place: u16, silenced: bool) -> Steps
-    requires { ⌜ PartsInRange gap ⌝ }
-    requires { ⌜ EntryInRange (entryAt (now s) place) ⌝ }
+    requires { ⌜ EntryInRange gap (entryAt (now s) place) ⌝ }
     ensures { λ r. ⌜ r ≡ entrySteps gap (entryAt (before s) place) «silenced» ⌝ }
 {
     let none = Steps {

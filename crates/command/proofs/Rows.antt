@@ -1,5 +1,5 @@
--- Laws of the command at a place: `rows-late`, `one-row`, `some-late`, `none-late`, `row-found`, the row that a command byte finds; `command-too-long`, `command-at`,
--- `no-row`, `row-there`, the command there.
+-- Laws of the command at a place: `one-row`, `some-late`, `reading-late`, `none-late`, `row-found`, the row that a command byte finds; `command-too-long`, `command-at`,
+-- `no-row`, `row-there`, `row-cut`, `row-whole`, the command there.
 -- Assumes nothing.
 use mathlib.Core.Path.{_≡_, refl, sym, ap, _∙_}
 use mathlib.Core.Bool.{Bool, true, false, cond, true≢false}
@@ -13,11 +13,11 @@ use borrow.Author.Needs.{needs}
 use lib.ListN.{length, getD}
 use Rattle.sizes.specs.Sizes.{longestSheet}
 use Rattle.line.specs.Line.{Entry}
-use Rattle.refusals.specs.declared.Refusal.the-variants.{SheetTooLong, CommandNotAllowed}
+use Rattle.refusals.specs.declared.Refusal.the-variants.{SheetTooLong, SheetEnds, CommandNotAllowed}
 use Rattle.rows.specs.declared.Header.{Header}
 use Rattle.rows.specs.declared.Command.the-variants.{Refused}
-use Rattle.rows.specs.Rows.{Row, pair, single, end, withCode}
-use Rattle.rows.specs.Codes.{silenceRow, allRows, rowOf, codeAt}
+use Rattle.rows.specs.Rows.{Row, pair, single, end, levels, ratio, width, withCode, rowAt, wholeRow}
+use Rattle.rows.specs.Codes.{silenceRow, allRows, rowOf, commandBytes}
 use Rattle.command.specs.Format.{isRow, today, decoded, commandAt}
 use Rattle.command.proofs.Walk.{Each, Found, found}
 
@@ -52,8 +52,11 @@ found-today P each stage code = found P code (today .rows stage) (part stage)
     part (suc (suc zero)) = each-left P (today .rows 2) (today .rows 3) late
     part (suc (suc (suc n))) = each-right P (today .rows 2) (today .rows 3) late
 
--- after the first three commands the other four are allowed
-pub rows-late : (stage : ℕ) → 3 ≤ stage → today .rows stage ≡ pair ∷ single ∷ silenceRow ∷ end ∷ []
+-- after the first three commands the others are allowed
+abbrev lateRows : List Row
+lateRows = pair ∷ single ∷ silenceRow ∷ end ∷ levels ∷ ratio ∷ []
+
+rows-late : (stage : ℕ) → 3 ≤ stage → today .rows stage ≡ lateRows
 rows-late zero l = absurd (omega arith)
 rows-late (suc zero) l = absurd (omega arith)
 rows-late (suc (suc zero)) l = absurd (omega arith)
@@ -64,21 +67,29 @@ pub one-row : (t : Bool) (r : Row) → t ≡ isRow (cond t (some r) none)
 one-row true r = refl
 one-row false r = refl
 
--- their bytes are 4 to 7
-pub some-late : (stage code : ℕ) → 3 ≤ stage → 4 ≤ code → code ≤ 7 → isRow (withCode (today .rows stage) code) ≡ true
-some-late stage code l low high = rw (rows-late stage l) (by (ℕ-discrete code 4) (ℕ-discrete code 5) (ℕ-discrete code 6))
-  where
-    by : Dec (code ≡ 4) → Dec (code ≡ 5) → Dec (code ≡ 6) → isRow (withCode (pair ∷ single ∷ silenceRow ∷ end ∷ []) code) ≡ true
-    by (yes e) q r = rw e
-    by (no p) (yes e) r = rw e
-    by (no p) (no q) (yes e) = rw e
-    by (no p) (no q) (no r) = let e : code ≡ 7 = omega arith in rw e
+module _ (stage code : ℕ) (late : 3 ≤ stage) where
+  -- their bytes are 4 to 7, 9 and 10
+  pub some-late : 4 ≤ code → code ≤ 7 → isRow (withCode (today .rows stage) code) ≡ true
+  some-late low high = rw (rows-late stage late) (by (ℕ-discrete code 4) (ℕ-discrete code 5) (ℕ-discrete code 6))
+    where
+      by : Dec (code ≡ 4) → Dec (code ≡ 5) → Dec (code ≡ 6) → isRow (withCode lateRows code) ≡ true
+      by (yes e) q r = rw e
+      by (no p) (yes e) r = rw e
+      by (no p) (no q) (yes e) = rw e
+      by (no p) (no q) (no r) = let e : code ≡ 7 = omega arith in rw e
 
--- and no other command
-pub none-late : (stage code : ℕ) → 3 ≤ stage → (code ≡ 4 → ⊥) → (code ≡ 5 → ⊥) → (code ≡ 6 → ⊥) → (code ≡ 7 → ⊥)
-    → isRow (withCode (today .rows stage) code) ≡ false
-none-late stage code l p q r s =
-    rw (rows-late stage l, ne-eqb code 4 p, ne-eqb code 5 q, ne-eqb code 6 r, ne-eqb code 7 s)
+  pub reading-late : 9 ≤ code → code ≤ 10 → isRow (withCode (today .rows stage) code) ≡ true
+  reading-late low high = rw (rows-late stage late) (by (ℕ-discrete code 9))
+    where
+      by : Dec (code ≡ 9) → isRow (withCode lateRows code) ≡ true
+      by (yes e) = rw e
+      by (no p) = let e : code ≡ 10 = omega arith in rw e
+
+  -- and no other
+  pub none-late : (code ≡ 4 → ⊥) → (code ≡ 5 → ⊥) → (code ≡ 6 → ⊥) → (code ≡ 7 → ⊥) → (code ≡ 9 → ⊥) → (code ≡ 10 → ⊥)
+      → isRow (withCode (today .rows stage) code) ≡ false
+  none-late p4 p5 p6 p7 p9 p10 =
+      rw (rows-late stage late, ne-eqb code 4 p4, ne-eqb code 5 p5, ne-eqb code 6 p6, ne-eqb code 7 p7, ne-eqb code 9 p9, ne-eqb code 10 p10)
 
 -- a byte that finds a row finds its own
 none-found : (o : Option Row) → isRow o ≡ false → o ≡ none
@@ -114,7 +125,20 @@ module _ (h : Header) (known : Entry) (s : List ℕ) (at stage : ℕ) (inside : 
   unfolding decoded
   no-row z = simp (lt-leb (length s) at inside, none-found (withCode (today .rows stage) (getD s at 0)) z)
 
-  pub row-there : length s ≤ longestSheet → withCode (today .rows stage) (getD s at 0) ≡ some (rowOf (getD s at 0))
-      → decoded today h known s at stage ≡ codeAt h known s at (getD s at 0)
-  unfolding decoded codeAt
-  row-there short f = rw (lt-leb (length s) at inside, f, le-ltb longestSheet (length s) short)
+  pub row-there : withCode (today .rows stage) (getD s at 0) ≡ some (rowOf (getD s at 0))
+      → decoded today h known s at stage ≡ wholeRow h known s at (rowOf (getD s at 0))
+  unfolding decoded
+  row-there f = rw (lt-leb (length s) at inside, f)
+
+-- A command whose byte is allowed: all of its bytes are there, or not.
+module _ (h : Header) (known : Entry) (s : List ℕ) (at code : ℕ) {bytes : ℕ} (e : bytes ≡ commandBytes code) where
+  next-is : at + 1 + width (rowOf code .operands) ≡ at + bytes
+  next-is = omega arith
+
+  pub row-cut : length s < at + bytes → wholeRow h known s at (rowOf code) ≡ record { command = Refused (SheetEnds (length s)); next = at }
+  unfolding rowAt
+  row-cut l = rw (next-is, lt-ltb (length s) (at + bytes) l)
+
+  pub row-whole : at + bytes ≤ length s → wholeRow h known s at (rowOf code) ≡ record { command = rowAt h known s at (rowOf code); next = at + bytes }
+  unfolding rowAt
+  row-whole l = rw (next-is, le-ltb (length s) (at + bytes) l)

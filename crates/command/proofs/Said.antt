@@ -1,8 +1,8 @@
 -- What is known of a command that is not refused, by what it does.
 -- Assumes nothing.
-use mathlib.Core.Bool.{Bool, true, false}
+use mathlib.Core.Bool.{true, false}
 use mathlib.Core.List.{List, [], _∷_}
-use mathlib.Core.Logic.{_⊎_, inl, inr}
+use mathlib.Core.Logic.{inl, inr}
 use mathlib.Core.Path.{_≡_, refl}
 use Prim.Native.Nat.{ℕ, zero, suc, _+_, _≤_, _<_}
 use native.Mathlib.Nat.{add-assoc}
@@ -11,7 +11,7 @@ use borrow.Author.Needs.{needs}
 use borrow.Author.Tests.{leb-false, ltb-false}
 use lib.Dec.{leb}
 use lib.ListN.{length, getD}
-use Rattle.sizes.specs.Sizes.{mostWords, longestSheet, toneCommand}
+use Rattle.sizes.specs.Sizes.{mostWords, longestSheet}
 use Rattle.lists.proofs.Tests.{by-test}
 use Rattle.bigendian.specs.Number.{number}
 use Rattle.bigendian.proofs.Numbers.{number-one}
@@ -21,11 +21,11 @@ use Rattle.rows.specs.declared.Header.{Header}
 use Rattle.rows.specs.declared.Command.{Command}
 use Rattle.rows.specs.declared.Command.the-variants.{End, Refused, Head, Describe, Silence}
 use Rattle.rows.specs.declared.Decoded.{Decoded}
-use Rattle.rows.specs.Rows.{Row, tone, width}
+use Rattle.rows.specs.Rows.{Operand, Row, describing, numbers, levelOperands, ratioOperands, width}
 use Rattle.places.specs.Places.{addressed}
 use Rattle.command.specs.Format.{today, isTooLong, commandAt}
-use Rattle.rows.specs.Codes.{silenceRow}
-use Rattle.command.proofs.Walk.{Each, passes, in-within, Does, by-rows}
+use Rattle.rows.specs.Codes.{ToneCode, commandBytes, silenceRow}
+use Rattle.command.proofs.Walk.{Each, first-value, passes, in-within, Does, by-rows}
 
 -- its bytes are there, in a sheet that is not too long
 pub record There (length at next : ℕ) : Type 0 where
@@ -42,8 +42,8 @@ pub record Heads (s : List ℕ) (at stage next : ℕ) : Type 0 where
 pub record DescribesTone (h : Header) (known : Entry) (s : List ℕ) (at stage next i : ℕ) : Type 0 where
   pub there : There (length s) at next
   pub late : 3 ≤ stage
-  pub code : (getD s at 0 ≡ 4) ⊎ (getD s at 0 ≡ 5)
-  pub whole : at + toneCommand ≤ length s
+  pub code : ToneCode (getD s at 0)
+  pub whole : at + commandBytes (getD s at 0) ≤ length s
   pub tone : i ≡ addressed s at
   pub of-line : i < h .size
   pub new : isDescribed known ≡ false
@@ -87,14 +87,16 @@ module _ (h : Header) (known : Entry) (s : List ℕ) (at : ℕ) (short : length 
   there : (w : ℕ) → at + 1 + w ≤ length s → There (length s) at (at + 1 + w)
   there w whole = record { onward = omega arith; inside = whole; short = short }
 
-  tone-said : (stage code : ℕ) (isSingle : Bool) → 3 ≤ stage → (code ≡ 4) ⊎ (code ≡ 5) → Does (SaidOf h known s at stage) h known s at (tone code isSingle)
-  tone-said stage code isSingle late which own whole p =
+  tone-said : (stage code : ℕ) (os : List Operand) → 3 ≤ stage → ToneCode code → commandBytes code ≡ 1 + width (describing code os .operands)
+      → Does (SaidOf h known s at stage) h known s at (describing code os)
+  tone-said stage code os late which bytes own whole p =
       let v = passes (leb (h .size) (number s (at + 1) 1)) _ _ (p .0) in
+      rw (first-value (number s (at + 1) 1) [] s (at + 1 + 1) os)
       record {
-        there = there 14 whole;
+        there = there (1 + width os) whole;
         late = late;
         code = rw own which;
-        whole = omega arith;
+        whole = rw own (omega (arith, bytes));
         tone = number-one s (at + 1);
         of-line = leb-false _ _ (v .0);
         new = passes (isDescribed known) _ _ (v .1) .0;
@@ -130,8 +132,19 @@ module _ (h : Header) (known : Entry) (s : List ℕ) (at : ℕ) (short : length 
   all-said (suc zero) = heads-said 1 (omega arith) (today .rows 1) (search needs)
   all-said (suc (suc zero)) = heads-said 2 (omega arith) (today .rows 2) (search needs)
   all-said (suc (suc (suc n))) =
-      let late : 3 ≤ suc (suc (suc n)) = omega arith in
-      (tone-said _ 4 false late (inl refl), (tone-said _ 5 true late (inr refl), (silence-said _ late, (λ own whole p. record { there = there 0 whole; late = late }, tt))))
+      let late : 3 ≤ suc (suc (suc n)) = omega arith in (
+        tone-said _ 4 (numbers false) late (inl (inl refl)) refl,
+        (
+          tone-said _ 5 (numbers true) late (inl (inr refl)) refl,
+          (
+            silence-said _ late,
+            (
+              λ own whole p. record { there = there 0 whole; late = late },
+              (tone-said _ 9 levelOperands late (inr (inl refl)) refl, (tone-said _ 10 ratioOperands late (inr (inr refl)) refl, tt)),
+            ),
+          ),
+        ),
+      )
 
 -- What is known of the command at a place.
 pub command-said : (h : Header) (known : Entry) (s : List ℕ) (at stage : ℕ) → SaidOf h known s at stage (commandAt today h known s at stage)

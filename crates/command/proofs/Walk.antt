@@ -59,6 +59,11 @@ abbrev pub values : List ℕ → List ℕ → (at : ℕ) → List Operand → Li
 values before s at [] = before
 values before s at (o ∷ os) = values (before ++ (number s at (o .width) ∷ [])) s (at + o .width) os
 
+-- the first of them is there from the first on
+pub first-value : (v : ℕ) (before s : List ℕ) (at : ℕ) (os : List Operand) → getD (values (v ∷ before) s at os) 0 0 ≡ v
+first-value v before s at [] = refl
+first-value v before s at (o ∷ os) = first-value v (before ++ (number s at (o .width) ∷ [])) s (at + o .width) os
+
 -- what holds of a refusal, and of what a command does of operands that pass, holds of what the operands come to
 pub by-operands : (P : Command → Type 0) → ((q : Refusal) → P (Refused q)) → (seen : Seen) (s : List ℕ) (at : ℕ) (os : List Operand) (does : List ℕ → Command)
     → (Passed seen s at os → P (does (values (seen .before) s at os))) → P (operandsFrom seen s at os does)
@@ -76,6 +81,13 @@ passes true r o e =
     let z : _≡_ {A = ℕ} 0 1 = cc in
     absurd (omega arith)
 passes false r o e = (refl, e)
+
+-- a test that would take passes
+pub takes : (t : Bool) (o : Option Refusal) (r : Refusal) → cond t o (some r) ≡ none → (t ≡ true) × (o ≡ none)
+takes true o r e = (refl, e)
+takes false o r e =
+    let z : _≡_ {A = ℕ} 0 1 = cc in
+    absurd (omega arith)
 
 pub in-within : (v low high : ℕ) (r q : Refusal) → cond (ltb v low) (some r) (cond (ltb high v) (some q) none) ≡ none → (low ≤ v) × (v ≤ high)
 in-within v low high r q e =

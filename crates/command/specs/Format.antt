@@ -1,8 +1,8 @@
 -- What a format allows, and the command at a place of a sheet. Document 01, 'The line sheet' and 'Why a sheet is turned down'; document 02,
--- W1.
+-- W1 and W5.
 -- Assumes nothing.
 use mathlib.Core.Bool.{Bool, true, false, cond}
-use mathlib.Core.List.{List}
+use mathlib.Core.List.{List, _++_}
 use mathlib.Core.Option.{Option, none, some}
 use mathlib.Core.Path.{_≡_}
 use Prim.Native.Nat.{ℕ, _≤_}
@@ -15,7 +15,7 @@ use Rattle.rows.specs.declared.Header.{Header}
 use Rattle.rows.specs.declared.Command.{Command}
 use Rattle.rows.specs.declared.Command.the-variants.{End, Refused, Head, Describe, Silence}
 use Rattle.rows.specs.declared.Decoded.{Decoded}
-use Rattle.rows.specs.Rows.{Row, width, firstRows, rowsOf, withCode, rowAt, wholeRow}
+use Rattle.rows.specs.Rows.{Row, width, firstRows, tenthsRows, rowsOf, withCode, rowAt, wholeRow}
 
 -- The most tones, the silence words, the longest sheet, and the commands allowed after so many of the first three.
 pub record Format : Type 0 where
@@ -31,6 +31,15 @@ formatOf tones words bytes = record { tones = tones; words = words; bytes = byte
 -- document 01's own format, with none of the requests' commands
 abbrev pub document01 : Format
 document01 = record { tones = mostTones; words = mostWords; bytes = longestSheet; rows = firstRows mostTones mostWords }
+
+-- the one before W5, with the gap in tenths
+abbrev pub withTenths : Format
+withTenths = record {
+  tones = mostTones;
+  words = mostWords;
+  bytes = longestSheet;
+  rows = λ stage. firstRows mostTones mostWords stage ++ tenthsRows stage;
+}
 
 -- the format that is read
 abbrev pub today : Format

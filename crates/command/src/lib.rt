@@ -1,8 +1,13 @@
-// The command at a place of a line sheet: document 01, 'The line sheet' and 'Why a sheet is turned down'.
+// The command at a place of a line sheet: document 01, 'The line sheet' and 'Why a sheet is turned down', and document 02, W1 and W5.
 ghost use mathlib.Core.Path.{_≡_};
+ghost use Prim.Native.Nat.{_+_, _≤_};
+ghost use lib.ListN.{length};
+ghost use Rattle.sizes.specs.Sizes.{longestSheet};
 ghost use Rattle.lists.specs.Lent.{before};
+ghost use Rattle.line.specs.Line.{Entry};
 ghost use Rattle.places.specs.Places.{entryAt};
-ghost use Rattle.rows.specs.Rows.{withCode};
+ghost use Rattle.rows.specs.Rows.{rowAt, wholeRow, withCode};
+ghost use Rattle.rows.specs.Codes.{ToneCode, rowOf, commandBytes};
 ghost use Rattle.command.specs.Format.{isRow, today, commandAt};
 use refusals::Refusal;
 use rows::Command;
@@ -24,8 +29,56 @@ fn is_allowed(stage: u8, code: u8) -> bool
         return code == 3;
     }
     match code {
-        4..=7 => true,
+        4..=7 | 9 | 10 => true,
         _ => false,
+    }
+}
+
+// What a command does that describes no tone, all of whose bytes are there.
+fn line_operands(s: &[u8], at: usize, code: u8, header: Header) -> Command
+    requires { ⌜ (ToneCode code → ⊥) ⌝ }
+    requires { ⌜ at + commandBytes code ≤ length (now s) ⌝ }
+    requires { ⌜ length (now s) ≤ longestSheet ⌝ }
+    ensures { λ r. ⌜ ((known : Entry) → r ≡ rowAt header known (before s) at (rowOf code)) ⌝ }
+{
+    match code {
+        1..=3 => rows::header_command(s, at, code, header),
+        6 => rows::silence_command(s, at, header),
+        8 => rows::tenths_command(s, at, header),
+        _ => Command::End,
+    }
+}
+
+// What a command does, all of whose bytes are there.
+fn operands(s: &[u8], at: usize, code: u8, header: Header, place: u16) -> Command
+    requires { ⌜ at + commandBytes code ≤ length (now s) ⌝ }
+    requires { ⌜ length (now s) ≤ longestSheet ⌝ }
+    ensures { λ r. ⌜ r ≡ rowAt header (entryAt (before s) place) (before s) at (rowOf code) ⌝ }
+{
+    match code {
+        4 | 5 | 9 | 10 => tonerows::tone_command(s, at, code, header, place),
+        _ => line_operands(s, at, code, header),
+    }
+}
+
+// What the command of a byte does, or why it is refused, and the place after it: 2 where its bytes are not all there, and then its operands
+// from left to right. `place` is where the tone that it addresses is described already, or 0.
+fn row_at(s: &[u8], at: usize, code: u8, header: Header, place: u16) -> Decoded
+    requires { ⌜ at ≤ length (now s) ⌝ }
+    requires { ⌜ length (now s) ≤ longestSheet ⌝ }
+    ensures { λ r. ⌜ r ≡ wholeRow header (entryAt (before s) place) (before s) at (rowOf code) ⌝ }
+{
+    let ends = s.len();
+    let bytes = rows::bytes_of(code);
+    if ends - at < bytes {
+        return Decoded {
+            command: Command::Refused(Refusal::SheetEnds(ends as u16)),
+            next: at,
+        };
+    }
+    Decoded {
+        command: operands(s, at, code, header, place),
+        next: at + bytes,
     }
 }
 
@@ -54,5 +107,5 @@ pub fn decode(s: &[u8], at: usize, stage: u8, header: Header, place: u16) -> Dec
             next: at,
         };
     }
-    rows::row_at(s, at, code, header, place)
+    row_at(s, at, code, header, place)
 }

@@ -7,6 +7,7 @@ use Prim.Native.Nat.{ℕ, zero, suc, _+_, _-_, _^_, _≤_, _<_}
 use native.Mathlib.Decide.{decLe}
 use native.Mathlib.Nat.{le-trans, lt-of-lt-of-le, not-le-of-lt, pow-le-pow-left, pow-le-pow-right, mul-le-mul-left, le-mul-of-pos-right, one-le-pow, zero-add}
 use native.Mathlib.Omega.{arith}
+use borrow.Author.Tests.{le-ltb}
 use lib.Dec.{T, leb, ltb, lit<, lit≤}
 use lib.ListN.{getD}
 use Rattle.gaps.specs.declared.Gap.{Gap}
@@ -49,7 +50,7 @@ tenths-in-range d h =
 -- a gap in range is in range in 1/256 too
 pub parts-in-range : (g : Gap) → GapInRange g → PartsInRange (parts g)
 parts-in-range (Parts g) I = I
-parts-in-range (Tenths d) I = tenths-in-range d I
+parts-in-range (Tenths d) I = rw (le-ltb mostTenths d I) (tenths-in-range d I)
 
 -- ---- a table of gaps, entry by entry
 

@@ -1,9 +1,11 @@
 -- The gap of a line, in either of the units that a sheet gives it in. Document 01, 'Cost, power and limit of a tone'; document 02, W1.
 -- Assumes nothing.
+use mathlib.Core.Bool.{cond}
 use mathlib.Core.List.{List}
 use mathlib.Core.Logic.{ite}
 use Prim.Native.Nat.{ℕ, zero, suc, _*_, _^_, _≤_}
 use native.Mathlib.Decide.{decLe}
+use lib.Dec.{ltb}
 use lib.ListN.{getD}
 use Rattle.gaps.specs.declared.Gap.{Gap}
 use Rattle.gaps.specs.declared.Gap.the-variants.{Parts, Tenths}
@@ -49,10 +51,10 @@ gapOfTenths d = smallest (λ g. decLe (threshold d) (g ^ 100)) (suc mostGap) 0
 pub record TenthsTable (gaps : List ℕ) : Type 0 where
   pub entry : (d : ℕ) → d ≤ mostTenths → Smallest (Reaches d) (getD gaps d 0)
 
--- the gap in 1/256
+-- the gap in 1/256; 0 of more tenths than a sheet may have
 abbrev pub parts : Gap → ℕ
 parts (Parts g) = g
-parts (Tenths d) = gapOfTenths d
+parts (Tenths d) = cond (ltb mostTenths d) 0 (gapOfTenths d)
 
 -- the ranges of either
 abbrev pub GapInRange : Gap → Type 0

@@ -1,7 +1,7 @@
 // The gap of a line, in either of the units that a sheet gives it in: document 01, 'Cost, power and limit of a tone', and document 02, W1.
 ghost use mathlib.Core.Path.{_≡_};
 ghost use Prim.Native.Nat.{_≤_};
-ghost use Rattle.gaps.specs.Gap.{mostTenths, gapOfTenths, TenthsTable, GapInRange, parts};
+ghost use Rattle.gaps.specs.Gap.{mostTenths, gapOfTenths, TenthsTable, parts};
 
 // The unit of the gap: a gap of 256 is none.
 pub const GAP_UNIT: u64 = 256;
@@ -269,13 +269,17 @@ fn of_tenths(gaps: &[u16; 241], tenths: u8) -> u16
     gaps[tenths as usize]
 }
 
-// A gap in parts of 256, in whichever unit it was given.
+// A gap in parts of 256, in whichever unit it was given; 0 of more tenths than a sheet may have.
 pub fn parts(gap: Gap) -> u16
-    requires { ⌜ GapInRange gap ⌝ }
     ensures { λ r. ⌜ r ≡ parts gap ⌝ }
 {
     match gap {
         Gap::Parts(parts) => parts,
-        Gap::Tenths(tenths) => of_tenths(&GAPS, tenths),
+        Gap::Tenths(tenths) => {
+            if MOST_TENTHS < tenths {
+                return 0;
+            }
+            of_tenths(&GAPS, tenths)
+        }
     }
 }

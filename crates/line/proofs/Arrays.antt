@@ -13,14 +13,11 @@ use Rattle.lists.proofs.Stores.{all-same}
 use Rattle.silence.specs.Map.{silenced}
 use Rattle.steps.specs.Tones.{Tones, step, Rising, Table, _!_, noBits, totalBits, totalPower}
 use Rattle.steps.proofs.Sums.{sum-at-most, sum-zero}
-use Rattle.gaps.specs.Gap.{PartsInRange}
-use Rattle.gaps.proofs.Rule.{parts-in-range}
 use Rattle.line.specs.declared.Limit.{Limit}
 use Rattle.line.specs.declared.Steps.{Steps}
 use Rattle.line.specs.Tone.{cost, doublings, limit}
 use Rattle.line.specs.Line.{Entry, undescribed, described, Line, gapOf, entryOf, entryLimit, entrySetBy, tones, EntryInRange, LineInRange, noSteps, entrySteps, stepsAt}
 use Rattle.line.specs.Arrays.{Arrays, limitAt, costAt, doublingsAt, stepSize, ArraysInRange, Under, Describes, StandsFor, ArraysOf}
-use Rattle.line.proofs.Ceiling.{cost-range}
 use Rattle.line.proofs.Growth.{doublings-low, shift-at-most}
 use Rattle.line.proofs.Limits.{limit-is}
 use Rattle.line.proofs.Loads.{line-power}
@@ -36,16 +33,15 @@ record Small (s : Steps) : Type 0 where
 none-small : Small noSteps
 none-small = record { cost-low = λ h. omega arith; cost-high = omega arith; shift-high = omega arith }
 
-small : (g : ℕ) (e : Entry) (q : Bool) → PartsInRange g → EntryInRange e → Small (entrySteps g e q)
-small g e true G I = none-small
-small g undescribed false G I = none-small
-small g (described t) false G I =
+small : (g : ℕ) (e : Entry) (q : Bool) → EntryInRange g e → Small (entrySteps g e q)
+small g e true I = none-small
+small g undescribed false I = none-small
+small g (described t) false I =
     let w = cost g t in
-    let range = cost-range g t G I in
     record {
-      cost-low = λ h. (range .low, doublings-low (t .kind));
-      cost-high = omega (arith, range .high);
-      shift-high = shift-at-most t (limit t w) (limit-is t w .at-most) I;
+      cost-low = λ h. (I .cost .low, doublings-low (t .kind));
+      cost-high = omega (arith, I .cost .high);
+      shift-high = shift-at-most t (limit t w) (limit-is t w .at-most) (I .bounds);
     }
 
 -- the limit with what set it
@@ -64,7 +60,7 @@ module _ (l : Line) (I : LineInRange l) (A : Arrays) (h : ArraysOf l A) where
   }
     where
       at : (i : ℕ) → i < l .size → Small (stepsAt l i)
-      at i il = small (gapOf l) (entryOf l i) (silenced (l .maps) i) (parts-in-range (l .gap) (I .gap)) (I .entries i il)
+      at i il = small (gapOf l) (entryOf l i) (silenced (l .maps) i) (I .entries i il)
 
   pub line-describes : Describes (l .size) A (tones l)
   line-describes = record {

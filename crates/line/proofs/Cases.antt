@@ -9,19 +9,21 @@ use native.Mathlib.Decide.{decLt, decLe, ℕ-discrete}
 use native.Mathlib.Omega.{arith}
 use borrow.Author.Needs.{needs}
 use lib.Dec.{T}
+use lib.Ieee.{ofBits, div}
 use lib.ListN.{length}
 use Rattle.steps.specs.Tones.{step, before?, Table, powers, sum, list, totalBits, totalPower, sumOfLimits}
 use Rattle.steps.specs.Runs.{against, choice, earliestFree, latestHeld, Answer, moved, finished, fits?, takeIfFits, giveUpOrTake, refitMove, addStep, addStepTo, refitStep, follow, run, mostBits, refitRun, carrying, setBits}
 use Rattle.steps.proofs.SetBits.{too-many}
 use Rattle.gaps.specs.Gap.{mostTenths, gapOfTenths}
 use Rattle.gaps.proofs.Rule.{right, right-is}
+use Rattle.readings.specs.Reading.{floatOf, readingCost, isOver}
 use Rattle.line.specs.declared.Kind.the-variants.{Pair}
 use Rattle.line.specs.declared.SetBy.{SetBy}
 use Rattle.line.specs.declared.SetBy.the-variants.{Silent, Cap, Mask}
-use Rattle.line.specs.Tone.{cost, kindPower, largest, limit, setBy}
+use Rattle.line.specs.Tone.{wholeCost, kindCost, cost, kindPower, largest, limit, setBy}
 use Rattle.line.specs.Tries.{tries}
-use Rattle.line.specs.Line.{EntryInRange, entryOf, LineInRange, setByAt}
-use Rattle.line.specs.Cases.{Case, most, granted, refused, never, refits, costs, limits, limitsBy, sampleLimits, tried, tenths, tone, sample, sampleTones, Through, CaseHolds, cases}
+use Rattle.line.specs.Line.{EntryInRange, gapOf, entryOf, LineInRange, setByAt}
+use Rattle.line.specs.Cases.{Case, most, granted, refused, never, refits, costs, readingCosts, overCosts, limits, limitsBy, sampleLimits, tried, tenths, tone, readTone, sample, sampleTones, Through, CaseHolds, cases}
 use Rattle.line.proofs.Loads.{line-rising, no-bits-fit}
 
 -- ---- tests that give a proof where they pass
@@ -42,6 +44,12 @@ both none o = none
 unfoldable onward : {A B : Type 0} → (A → B) → Option A → Option B
 onward f (some a) = some (f a)
 onward f none = none
+
+unfoldable sameBool : (a b : Bool) → Option (a ≡ b)
+sameBool true true = some refl
+sameBool false false = some refl
+sameBool true false = none
+sameBool false true = none
 
 unfoldable same : (t u : List ℕ) → Option (t ≡ u)
 same [] [] = some refl
@@ -82,6 +90,7 @@ through rule t (u ∷ us) = both (sameAnswer (rule t) (moved u)) (through rule u
 -- ---- the sample line
 
 sample-in-range : LineInRange (sample 0)
+unfolding kindCost
 sample-in-range = record {
   size-low = omega arith;
   size-high = omega arith;
@@ -90,7 +99,7 @@ sample-in-range = record {
   entries = entries;
 }
   where
-    entries : (i : ℕ) → i < 3 → EntryInRange (entryOf (sample 0) i)
+    entries : (i : ℕ) → i < 3 → EntryInRange (gapOf (sample 0)) (entryOf (sample 0) i)
     entries zero l = search needs
     entries (suc zero) l = search needs
     entries (suc (suc zero)) l = search needs
@@ -109,7 +118,7 @@ is-gap d g p = sym (right-is d g (p .0) (p .1))
 -- ---- the rows
 
 unfoldable row : (r : Case) → Option (CaseHolds r)
-unfolding test true? both onward same sameAnswer sameLoading sameSetBy through
+unfolding test true? both onward sameBool same sameAnswer sameLoading sameSetBy through
 row (most budget bits power allBits allPower) =
     both (both (same (mostBits sampleTones budget .table) bits) (same (powers sampleTones bits) power))
     (both (test (ℕ-discrete (totalBits sampleTones bits) allBits)) (test (ℕ-discrete (totalPower sampleTones bits) allPower)))
@@ -119,6 +128,8 @@ row (never target) = onward (never-carried target) (test (decLt (sumOfLimits sam
 row (refits budget start tables) =
     both (through (refitStep sampleTones budget) start tables) (test (ℕ-discrete (refitRun sampleTones budget start .moves) (length tables)))
 row (costs gap noise gain w) = test (ℕ-discrete (cost gap (tone Pair noise gain 0 0)) w)
+row (readingCosts gap r w) = both (sameBool (isOver gap r) false) (test (ℕ-discrete (cost gap (readTone r)) w))
+row (overCosts gap r) = sameBool (isOver gap r) true
 row (limits w mask b) = test (ℕ-discrete (limit (tone Pair 1 1 15 mask) w) b)
 row (limitsBy w cap mask b by) =
     both (test (ℕ-discrete (limit (tone Pair 1 1 cap mask) w) b)) (sameSetBy (setBy (tone Pair 1 1 cap mask) w) by)
@@ -146,5 +157,5 @@ proof (some a) p = a
 proof none p = absurd p
 
 pub starred-cases : All cases
-unfolding cases right test true? both onward same sameAnswer sameLoading sameSetBy through row each passed cost kindPower largest limit setBy tries step before? sum list against choice earliestFree latestHeld fits? takeIfFits giveUpOrTake refitMove addStep addStepTo refitStep follow run carrying setBits decLt decLe ℕ-discrete
+unfolding ofBits div cases right test true? both onward sameBool same sameAnswer sameLoading sameSetBy through row each passed wholeCost kindCost kindPower largest limit setBy tries floatOf readingCost isOver step before? sum list against choice earliestFree latestHeld fits? takeIfFits giveUpOrTake refitMove addStep addStepTo refitStep follow run carrying setBits decLt decLe ℕ-discrete
 starred-cases = proof (each cases) tt

@@ -6,9 +6,9 @@ use native.Mathlib.Nat.{mul-sub, mul-suc, pow-suc, mul-le-mul, mul-le-mul-left}
 use native.Mathlib.Omega.{arith}
 use lib.Pow.{pow-pos, pow-add, pow-mono}
 use Rattle.line.specs.declared.Kind.{Kind}
-use Rattle.line.specs.declared.Kind.the-variants.{Pair, Single}
+use Rattle.line.specs.declared.Kind.the-variants.{Pair, Single, Read}
 use Rattle.line.specs.declared.Tone.{Tone}
-use Rattle.line.specs.Tone.{isSingle, mostCap, kindPower, doublingsOf, doublings, carried, InRange, power, step}
+use Rattle.line.specs.Tone.{isSingle, mostCap, kindPower, doublingsOf, doublings, boundsOf, BoundsInRange, power, step}
 
 four-pow : (b : ℕ) → 4 ^ b ≡ 2 ^ (2 * b)
 four-pow zero = refl
@@ -16,25 +16,32 @@ four-pow (suc b) =
     let e : 2 * suc b ≡ 2 * b + 2 = omega arith in
     omega (arith, pow-suc 4 b, four-pow b, ap (λ (n : ℕ). 2 ^ n) e ∙ pow-add 2 (2 * b) 2)
 
+two-shift : (w b : ℕ) → w * (2 ^ b - 1) ≡ w * 2 ^ (1 * b) - w
+two-shift w b =
+    let e : 1 * b ≡ b = omega arith in
+    rw (mul-sub w (2 ^ b) 1, e) (omega arith)
+
 -- the power of b bits is the cost shifted by so many doublings, less the cost
 pub power-shift : (k : Kind) (w b : ℕ) → kindPower k w b ≡ w * 2 ^ (doublingsOf k * b) - w
 unfolding kindPower
-power-shift (Pair n) w b =
-    let e : 1 * b ≡ b = omega arith in
-    rw (mul-sub w (2 ^ b) 1, e) (omega arith)
+power-shift (Pair n) w b = two-shift w b
 power-shift (Single n) w b = rw (mul-sub w (4 ^ b) 1, four-pow b) (omega arith)
+power-shift (Read n) w b = two-shift w b
 
 pub doublings-low : (k : Kind) → 1 ≤ doublingsOf k
 doublings-low (Pair n) = omega arith
 doublings-low (Single n) = omega arith
+doublings-low (Read n) = omega arith
 
 pub doublings-high : (k : Kind) → doublingsOf k ≤ 2
 doublings-high (Pair n) = omega arith
 doublings-high (Single n) = omega arith
+doublings-high (Read n) = omega arith
 
 shift-high : (k : Kind) (b cap : ℕ) → b ≤ cap → cap ≤ mostCap (isSingle k) → doublingsOf k * b ≤ 15
 shift-high (Pair n) b cap h l = omega arith
 shift-high (Single n) b cap h l = omega arith
+shift-high (Read n) b cap h l = omega arith
 
 -- ---- for any number of doublings d
 
@@ -101,5 +108,5 @@ pub power-zero : (t : Tone) (w : ℕ) → power t w 0 ≡ 0
 power-zero t w = let e : doublings t * 0 ≡ 0 = omega arith in rw (power-is t w 0, e) (omega arith)
 
 -- a shift that the ranges allow
-pub shift-at-most : (t : Tone) (b : ℕ) → b ≤ carried t .cap → InRange t → doublings t * b ≤ 15
-shift-at-most t b h I = shift-high (t .kind) b (carried t .cap) h (I .cap-high)
+pub shift-at-most : (t : Tone) (b : ℕ) → b ≤ boundsOf t .cap → BoundsInRange t → doublings t * b ≤ 15
+shift-at-most t b h I = shift-high (t .kind) b (boundsOf t .cap) h (I .cap-high)

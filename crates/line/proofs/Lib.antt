@@ -1,4 +1,4 @@
-pub mod Ceiling
+pub mod Costs
 pub mod Largest
 pub mod Growth
 pub mod Limits

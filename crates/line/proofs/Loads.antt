@@ -13,13 +13,10 @@ use Rattle.steps.proofs.Sums.{sum-zero}
 use Rattle.steps.proofs.Rising.{rising}
 use Rattle.steps.proofs.Demand3.{demand-3}
 use Rattle.steps.proofs.SetBits.{set-bits}
-use Rattle.gaps.specs.Gap.{PartsInRange}
-use Rattle.gaps.proofs.Rule.{parts-in-range}
 use Rattle.line.specs.declared.Steps.{Steps}
 use Rattle.line.specs.Tone.{cost}
 use Rattle.line.specs.Line.{Entry, undescribed, described, Line, gapOf, entryOf, entryLimit, entryPower, tones, EntryInRange, LineInRange, entrySteps, stepsAt}
 use Rattle.line.specs.Arrays.{powerIn, stepSize}
-use Rattle.line.proofs.Ceiling.{cost-range}
 use Rattle.line.proofs.Growth.{power-is, power-grows, power-zero, step-rises}
 
 entry-no-bits : (g : ℕ) (e : Entry) → entryPower g e 0 ≡ 0
@@ -45,20 +42,20 @@ entry-add-up : (g : ℕ) (e : Entry) (q : Bool) (b : ℕ) → b < entryLimit g e
 entry-add-up g e q b h =
     rw (← entry-power g e q (suc b) h, ← entry-power g e q b (omega arith)) (omega (arith, entry-grows g e b))
 
-entry-rise : (g : ℕ) (e : Entry) (q : Bool) (b : ℕ) → PartsInRange g → EntryInRange e → suc b < entryLimit g e q
+entry-rise : (g : ℕ) (e : Entry) (q : Bool) (b : ℕ) → EntryInRange g e → suc b < entryLimit g e q
     → stepBy (entrySteps g e q) b < stepBy (entrySteps g e q) (suc b)
-entry-rise g e true b G I h = omega arith
-entry-rise g undescribed false b G I h = omega arith
-entry-rise g (described t) false b G I h =
+entry-rise g e true b I h = omega arith
+entry-rise g undescribed false b I h = omega arith
+entry-rise g (described t) false b I h =
     let w = cost g t in
-    rw (← power-is t w b, ← power-is t w (suc b), ← power-is t w (suc (suc b))) (step-rises t w b (cost-range g t G I .low))
+    rw (← power-is t w b, ← power-is t w (suc b), ← power-is t w (suc (suc b))) (step-rises t w b (I .cost .low))
 
 module _ (l : Line) (I : LineInRange l) where
   pub line-rising : Rising (tones l)
   line-rising =
       rising (tones l) (λ i b. stepBy (stepsAt l i) b)
       (λ i b il bl. entry-add-up (gapOf l) (entryOf l i) (silenced (l .maps) i) b bl)
-      (λ i b il bl. entry-rise (gapOf l) (entryOf l i) (silenced (l .maps) i) b (parts-in-range (l .gap) (I .gap)) (I .entries i il) bl)
+      (λ i b il bl. entry-rise (gapOf l) (entryOf l i) (silenced (l .maps) i) b (I .entries i il) bl)
 
   -- the powers of a line are those of what the code keeps of its tones
   pub line-power : (i b : ℕ) → b ≤ tones l .limit i → tones l .power i b ≡ powerIn (stepsAt l i .cost) (stepsAt l i .doublings) b

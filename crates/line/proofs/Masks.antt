@@ -22,21 +22,21 @@ within-mask g (described t) true b h =
     rw z (omega (arith, power-zero t (cost g t)))
 within-mask g (described t) false b h = le-trans (power-mono t (cost g t) h) (limit-is t (cost g t) .passes)
 
-mask-high : (e : Entry) → EntryInRange e → entryMask e ≤ 2 ^ 47
-mask-high undescribed I = omega arith
-mask-high (described t) I = I .mask-high
+mask-high : (g : ℕ) (e : Entry) → EntryInRange g e → entryMask e ≤ 2 ^ 47
+mask-high g undescribed I = omega arith
+mask-high g (described t) I = I .bounds .mask-high
 
-limit-high : (g : ℕ) (e : Entry) (q : Bool) → EntryInRange e → entryLimit g e q ≤ 15
+limit-high : (g : ℕ) (e : Entry) (q : Bool) → EntryInRange g e → entryLimit g e q ≤ 15
 limit-high g e true I = omega arith
 limit-high g undescribed false I = omega arith
-limit-high g (described t) false I = le-trans (limit-is t (cost g t) .at-most) (cap-high I)
+limit-high g (described t) false I = le-trans (limit-is t (cost g t) .at-most) (cap-high (I .bounds))
 
 module _ (l : Line) (I : LineInRange l) where
   -- the power of one tone within its limit
   pub power-high : (i b : ℕ) → i < l .size → b ≤ tones l .limit i → tones l .power i b ≤ 2 ^ 47
   power-high i b il h =
       le-trans (within-mask (gapOf l) (entryOf l i) (silenced (l .maps) i) b h)
-      (mask-high (entryOf l i) (I .entries i il))
+      (mask-high (gapOf l) (entryOf l i) (I .entries i il))
 
   -- no limit is above 15 bits, so the limits add up to at most 256 × 15
   pub limits-high : sumOfLimits (tones l) ≤ mostBitsOfAll

@@ -6,36 +6,37 @@ use native.Mathlib.Nat.{mul-le-mul}
 use native.Mathlib.Numerals.{add-one}
 use native.Mathlib.Omega.{arith}
 use lib.Pow.{pow-mono, shl-exact}
-use Rattle.line.specs.declared.Numbers.{Numbers}
+use Rattle.sizes.specs.Sizes.{mostCost}
+use Rattle.line.specs.declared.Bounds.{Bounds}
 use Rattle.line.specs.declared.Tone.{Tone}
 use Rattle.line.specs.declared.SetBy.the-variants.{Cap, Mask}
 use Rattle.line.specs.declared.Limit.{Limit}
-use Rattle.line.specs.Tone.{carried, doublings, InRange, Cost, power, limitOf}
+use Rattle.line.specs.Tone.{boundsOf, doublings, BoundsInRange, Cost, power, limitOf}
 use Rattle.line.specs.Tries.{tries}
 use Rattle.line.specs.Arrays.{powerIn}
 use Rattle.line.proofs.Growth.{doublings-high, power-is, power-next}
 use Rattle.line.proofs.Limits.{cap-high, Allowed, mask-stops, mask-tries, cap-stops, cap-tries}
 
--- what the search goes by: the numbers n and the doublings d of tone t, and its cost w
-pub record Searched (t : Tone) (w : ℕ) (n : Numbers) (d : ℕ) : Type 0 where
+-- what the search goes by: the bounds n and the doublings d of tone t, and its cost w
+pub record Searched (t : Tone) (w : ℕ) (n : Bounds) (d : ℕ) : Type 0 where
   pub cost : Cost w
-  pub in-range : InRange t
-  pub numbers : n ≡ carried t
+  pub in-range : BoundsInRange t
+  pub bounds : n ≡ boundsOf t
   pub shift : d ≡ doublings t
 
 -- between the turns: b bits are within the cap, and their power p within the mask; as many powers were tried
-pub record Between (w : ℕ) (n : Numbers) (d b tried p : ℕ) : Type 0 where
+pub record Between (w : ℕ) (n : Bounds) (d b tried p : ℕ) : Type 0 where
   pub at-most : b ≤ n .cap
   pub power-of : p ≡ powerIn w d b
   pub under : p ≤ n .mask
   pub counted : tried ≡ b
 
-module _ {t : Tone} {w : ℕ} {n : Numbers} {d : ℕ} (S : Searched t w n d) where
-  cap-is : n .cap ≡ carried t .cap
-  cap-is = ap (λ (m : Numbers). m .cap) (S .numbers)
+module _ {t : Tone} {w : ℕ} {n : Bounds} {d : ℕ} (S : Searched t w n d) where
+  cap-is : n .cap ≡ boundsOf t .cap
+  cap-is = ap (λ (m : Bounds). m .cap) (S .bounds)
 
-  mask-is : n .mask ≡ carried t .mask
-  mask-is = ap (λ (m : Numbers). m .mask) (S .numbers)
+  mask-is : n .mask ≡ boundsOf t .mask
+  mask-is = ap (λ (m : Bounds). m .mask) (S .bounds)
 
   power-in : (b : ℕ) → powerIn w d b ≡ power t w b
   power-in b = rw (S .shift) (sym (power-is t w b))
@@ -64,7 +65,7 @@ module _ {t : Tone} {w : ℕ} {n : Numbers} {d : ℕ} (S : Searched t w n d) whe
       next-fits =
           let most : 2 ^ d ≤ 2 ^ 2 = pow-mono shift-at-most-2 in
           let shifted : p * 2 ^ d ≤ 2 ^ 47 * 2 ^ 2 = mul-le-mul power-high most in
-          let added : w * 2 ^ d ≤ 16776705 * 2 ^ 2 = mul-le-mul (S .cost .high) most in
+          let added : w * 2 ^ d ≤ mostCost * 2 ^ 2 = mul-le-mul (S .cost .high) most in
           let one : d * 1 ≡ d = omega arith in
           omega (arith, shift-exact, shifted, added, F, ap (λ (x : ℕ). w * 2 ^ x - w) one)
 
@@ -77,11 +78,11 @@ module _ {t : Tone} {w : ℕ} {n : Numbers} {d : ℕ} (S : Searched t w n d) whe
     pub mask-ends : b < n .cap → n .mask < powerIn w d (b + 1)
         → (_≡_ {A = Limit} (record { bits = b; by = Mask }) (limitOf t w)) × (tried + 1 ≡ tries t w)
     mask-ends below over =
-        let lower : b < carried t .cap = omega (arith, below, cap-is) in
-        let above : carried t .mask < power t w (suc b) = omega (arith, over, mask-is, power-in (suc b), ap (powerIn w d) (add-one b)) in
+        let lower : b < boundsOf t .cap = omega (arith, below, cap-is) in
+        let above : boundsOf t .mask < power t w (suc b) = omega (arith, over, mask-is, power-in (suc b), ap (powerIn w d) (add-one b)) in
         (mask-stops t w allowed lower above, omega (arith, B .counted, mask-tries t w allowed lower above))
 
     pub cap-ends : n .cap ≤ b → (_≡_ {A = Limit} (record { bits = b; by = Cap }) (limitOf t w)) × (tried ≡ tries t w)
     cap-ends full =
-        let at-cap : carried t .cap ≤ b = omega (arith, full, cap-is) in
+        let at-cap : boundsOf t .cap ≤ b = omega (arith, full, cap-is) in
         (cap-stops t w allowed at-cap, B .counted ∙ cap-tries t w allowed at-cap)

@@ -1,6 +1,7 @@
 -- The starred cases of document 01, 'Sample line', and figures and cases of document 02's requests, as rows of one list, and what each says of
 -- the definitions.
 -- Assumes nothing.
+use mathlib.Core.Bool.{true, false}
 use mathlib.Core.Path.{_≡_}
 use mathlib.Core.List.{List, [], _∷_}
 use mathlib.Core.Option.{none, some}
@@ -10,8 +11,11 @@ use Rattle.steps.specs.Tones.{Tones, Table, powers, totalBits, totalPower}
 use Rattle.steps.specs.Runs.{Answer, moved, finished, refitStep, mostBits, refitRun, setBits}
 use Rattle.gaps.specs.declared.Gap.the-variants.{Parts}
 use Rattle.gaps.specs.Gap.{gapOfTenths}
+use Rattle.readings.specs.declared.Reading.{Reading}
+use Rattle.readings.specs.declared.Reading.the-variants.{Both, Ratio}
+use Rattle.readings.specs.Reading.{floatOf, isOver}
 use Rattle.line.specs.declared.Kind.{Kind}
-use Rattle.line.specs.declared.Kind.the-variants.{Pair, Single}
+use Rattle.line.specs.declared.Kind.the-variants.{Pair, Single, Read}
 use Rattle.line.specs.declared.Numbers.{Numbers}
 use Rattle.line.specs.declared.Tone.{Tone}
 use Rattle.line.specs.declared.SetBy.{SetBy}
@@ -22,6 +26,16 @@ use Rattle.line.specs.Line.{described, Line, tones, setByAt}
 
 abbrev pub tone : (Numbers → Kind) → (noise gain cap mask : ℕ) → Tone
 tone kind noise gain cap mask = record { kind = kind (record { noise = noise; gain = gain; cap = cap; mask = mask }) }
+
+-- W5, a tone of 09 and of 0A by the bits of their floats, and a tone that has a reading
+abbrev pub levels : (noise gain : ℕ) → Reading
+levels noise gain = Both (record { noise = floatOf noise; gain = floatOf gain })
+
+abbrev pub ratio : (bits : ℕ) → Reading
+ratio bits = Ratio (floatOf bits)
+
+abbrev pub readTone : Reading → Tone
+readTone r = record { kind = Read (record { reading = r; cap = 0; mask = 0 }) }
 
 -- 'Gap 256; tone 0 pair, noise 3, cap 15; tone 1 pair, noise 5, cap 2; tone 2 single, noise 1, cap 7; gains 1, masks 100.'
 abbrev pub sample : (budget : ℕ) → Line
@@ -49,6 +63,10 @@ pub data Case : Type 0 where
   refits : (budget : ℕ) → (start : List ℕ) → (through : List (List ℕ)) → Case
   -- gap, noise, gain: the cost
   costs : (gap noise gain w : ℕ) → Case
+  -- W5, gap and reading: the cost, which 13 does not refuse
+  readingCosts : (gap : ℕ) → Reading → (w : ℕ) → Case
+  -- W5, gap and reading: 13 refuses it
+  overCosts : (gap : ℕ) → Reading → Case
   -- cost and mask: the limit of a pair tone
   limits : (w mask b : ℕ) → Case
   -- W3, cost, cap and mask: the limit of a pair tone, and what set it
@@ -75,6 +93,8 @@ CaseHolds (never target) = (budget : ℕ) → setBits sampleTones budget target 
 CaseHolds (refits budget start through) =
     Through (refitStep sampleTones budget) start through × (refitRun sampleTones budget start .moves ≡ length through)
 CaseHolds (costs gap noise gain w) = cost gap (tone Pair noise gain 0 0) ≡ w
+CaseHolds (readingCosts gap r w) = (isOver gap r ≡ false) × (cost gap (readTone r) ≡ w)
+CaseHolds (overCosts gap r) = isOver gap r ≡ true
 CaseHolds (limits w mask b) = limit (tone Pair 1 1 15 mask) w ≡ b
 CaseHolds (limitsBy w cap mask b by) = (limit (tone Pair 1 1 cap mask) w ≡ b) × (setBy (tone Pair 1 1 cap mask) w ≡ by)
 CaseHolds (sampleLimits i b by) = (sampleTones .limit i ≡ b) × (setByAt (sample 0) i ≡ by)
@@ -95,6 +115,15 @@ cases =
     ∷ refits 39 (0 ∷ 2 ∷ 3 ∷ []) ((1 ∷ 2 ∷ 2 ∷ []) ∷ (2 ∷ 2 ∷ 1 ∷ []) ∷ (3 ∷ 2 ∷ 1 ∷ []) ∷ [])
     ∷ costs 257 1 1 2
     ∷ costs 256 7 2 4
+    ∷ readingCosts 256 (ratio 0x3f80_0000) 1
+    ∷ readingCosts 256 (ratio 0x3fc0_0000) 2
+    ∷ readingCosts 256 (ratio 0x0000_0001) 1
+    ∷ readingCosts 256 (ratio 0x4b7f_fe01) 16776705
+    ∷ overCosts 256 (ratio 0x4b7f_fe02)
+    ∷ readingCosts 256 (levels 0x4040_0000 0x4000_0000) 2
+    ∷ readingCosts 257 (ratio 0x3f80_0000) 2
+    ∷ readingCosts 256 (levels 0x0000_0001 0x7f7f_ffff) 1
+    ∷ overCosts 256 (levels 0x7f7f_ffff 0x0000_0001)
     ∷ limits 3 3 1
     ∷ limits 3 8 1
     ∷ limits 3 9 2

@@ -14,7 +14,7 @@ use Rattle.line.specs.declared.Tone.{Tone}
 use Rattle.line.specs.declared.SetBy.{SetBy}
 use Rattle.line.specs.declared.SetBy.the-variants.{Silent}
 use Rattle.line.specs.declared.Steps.{Steps}
-use Rattle.line.specs.Tone.{carried, InRange, cost, power, limit, setBy, limitOf, doublings}
+use Rattle.line.specs.Tone.{boundsOf, InRange, cost, power, limit, setBy, limitOf, doublings}
 
 -- a tone of a line: not described, or described, with what it carries
 pub data Entry : Type 0 where
@@ -62,7 +62,7 @@ entryPower g (described t) b = power t (cost g t) b
 -- the mask of a tone, 0 where none is described
 abbrev pub entryMask : Entry → ℕ
 entryMask undescribed = 0
-entryMask (described t) = carried t .mask
+entryMask (described t) = boundsOf t .mask
 
 -- The tones of a line, with the limits and powers that the runs go by.
 abbrev pub tones : Line → Tones
@@ -76,10 +76,10 @@ tones l = record {
 abbrev pub setByAt : Line → (i : ℕ) → SetBy
 setByAt l i = entrySetBy (gapOf l) (entryOf l i) (silenced (l .maps) i)
 
--- the ranges of what an entry carries
-abbrev pub EntryInRange : Entry → Type 0
-EntryInRange undescribed = Unit {0}
-EntryInRange (described t) = InRange t
+-- the ranges of what an entry carries, at the line's gap
+abbrev pub EntryInRange : (g : ℕ) → Entry → Type 0
+EntryInRange g undescribed = Unit {0}
+EntryInRange g (described t) = InRange g t
 
 -- the ranges of a line: N from 1 to 256, the gap in its unit's range, the budget from 0 to 2^47, and those of each tone
 pub record LineInRange (l : Line) : Type 0 where
@@ -87,7 +87,7 @@ pub record LineInRange (l : Line) : Type 0 where
   pub size-high : l .size ≤ mostTones
   pub gap : GapInRange (l .gap)
   pub budget-high : l .budget ≤ mostPower
-  pub entries : (i : ℕ) → i < l .size → EntryInRange (entryOf l i)
+  pub entries : (i : ℕ) → i < l .size → EntryInRange (gapOf l) (entryOf l i)
 
 -- What the code finds of a tone, whichever its kind: its limit with what set it, and for the runs cost and doublings. A silenced tone, and
 -- one not described, has nothing.

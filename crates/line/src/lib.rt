@@ -1,12 +1,12 @@
-// One tone of a line: document 01, 'Cost, power and limit of a tone'; document 02, W3 and W4.
+// One tone of a line: document 01, 'Cost, power and limit of a tone'; document 02, W3, W4 and W5.
 ghost use mathlib.Core.Path.{_≡_};
 ghost use Prim.Native.Nat.{_*_, _^_, _≤_, _<_};
-ghost use Rattle.gaps.specs.Gap.{PartsInRange};
 ghost use Rattle.line.specs.Line.{stepsOf};
 ghost use Rattle.line.specs.Arrays.{powerIn};
-ghost use Rattle.line.specs.Tone.{mostCap, carried, doublings, InRange, Cost, cost, limitOf};
+ghost use Rattle.line.specs.Tone.{mostCap, boundsOf, doublings, NumbersInRange, BoundsInRange, InRange, Cost, wholeCost, cost, limitOf};
 ghost use Rattle.line.specs.Tries.{tries};
 use gaps::GAP_UNIT;
+use readings::Reading;
 use sizes::PAIR_CAP;
 use sizes::SINGLE_CAP;
 
@@ -18,14 +18,28 @@ pub struct Numbers {
     pub mask: u64,
 }
 
-// A pair tone is two-dimensional, a single tone one-dimensional.
+// What a tone carries whose noise and gain came from the line analyser: the reading, cap and mask.
+pub struct ReadNumbers {
+    pub reading: Reading,
+    pub cap: u8,
+    pub mask: u64,
+}
+
+// A pair tone is two-dimensional, a single tone one-dimensional. A tone with a reading is a pair tone from its cost on.
 pub enum Kind {
     Pair(Numbers),
     Single(Numbers),
+    Read(ReadNumbers),
 }
 
 pub struct Tone {
     pub kind: Kind,
+}
+
+// What bounds the bits of a tone, whichever its kind.
+struct Bounds {
+    cap: u8,
+    mask: u64,
 }
 
 // What set a tone's limit. A tone that is not described, or is silenced, is silent.
@@ -62,14 +76,24 @@ pub fn most_cap(is_single: bool) -> u8
     if is_single { SINGLE_CAP } else { PAIR_CAP }
 }
 
-// What the tone carries, whichever its kind.
-fn carried(tone: Tone) -> Numbers
-    ensures { λ r. ⌜ r ≡ carried tone ⌝ }
+// The cap and the mask of a tone, whichever its kind.
+fn bounds_of(tone: Tone) -> Bounds
+    ensures { λ r. ⌜ r ≡ boundsOf tone ⌝ }
 {
     let kind = tone.kind;
     match kind {
-        Kind::Pair(n) => n,
-        Kind::Single(n) => n,
+        Kind::Pair(n) => Bounds {
+            cap: n.cap,
+            mask: n.mask,
+        },
+        Kind::Single(n) => Bounds {
+            cap: n.cap,
+            mask: n.mask,
+        },
+        Kind::Read(n) => Bounds {
+            cap: n.cap,
+            mask: n.mask,
+        },
     }
 }
 
@@ -81,19 +105,35 @@ fn doublings(tone: Tone) -> u8
     match kind {
         Kind::Pair(_) => 1,
         Kind::Single(_) => 2,
+        Kind::Read(_) => 1,
     }
 }
 
-// The cost of a tone at a gap in parts of 256: the noise over the gain, with the gap, rounded up.
-fn cost(gap: u16, tone: Tone) -> u32
-    requires { ⌜ PartsInRange gap × InRange tone ⌝ }
-    ensures meaning { λ r. ⌜ r ≡ cost gap tone ⌝ }
-    ensures range { λ r. ⌜ Cost r ⌝ }
+// The cost of whole numbers at a gap in parts of 256: the noise over the gain, with the gap, rounded up.
+fn whole_cost(gap: u16, n: Numbers) -> u32
+    requires { ⌜ NumbersInRange n ⌝ }
+    ensures { λ r. ⌜ r ≡ wholeCost gap n ⌝ }
 {
-    let n = carried(tone);
     let top = gap as u64 * n.noise as u64;
     let bottom = GAP_UNIT * n.gain as u64;
     ((top + (bottom - 1)) / bottom) as u32
+}
+
+// The cost of a tone at a gap in parts of 256.
+fn cost(gap: u16, tone: Tone) -> u32
+    requires { ⌜ InRange gap tone ⌝ }
+    ensures meaning { λ r. ⌜ r ≡ cost gap tone ⌝ }
+    ensures range { λ r. ⌜ Cost r ⌝ }
+{
+    let kind = tone.kind;
+    match kind {
+        Kind::Pair(n) => whole_cost(gap, n),
+        Kind::Single(n) => whole_cost(gap, n),
+        Kind::Read(n) => {
+            let reading = n.reading;
+            readings::cost_of(gap, reading)
+        }
+    }
 }
 
 // The power of a number of bits: the cost, doubled `doublings` × bits times, less the cost.
@@ -109,12 +149,12 @@ pub fn power_at(cost: u32, doublings: u8, bits: u8) -> u64
 // The limit of a tone, by trying the powers of 1 bit, 2 bits and so on until the cap or the mask stops it: that one set it. Each power
 // comes from the one before it: shifted, and the power of 1 bit added.
 fn limit_of(tone: Tone, cost: u32) -> Tried
-    requires { ⌜ Cost cost × InRange tone ⌝ }
+    requires { ⌜ Cost cost × BoundsInRange tone ⌝ }
     ensures limit { λ r. ⌜ r .limit ≡ limitOf tone cost ⌝ }
     ensures tries { λ r. ⌜ r .tries ≡ tries tone cost ⌝ }
 {
-    let n = carried(tone);
-    let cap = n.cap;
+    let bounds = bounds_of(tone);
+    let cap = bounds.cap;
     let shift = doublings(tone);
     let first = power_at(cost, shift, 1);
     let mut bits: u8 = 0;
@@ -123,7 +163,7 @@ fn limit_of(tone: Tone, cost: u32) -> Tried
     while bits < cap {
         power = (power << shift as u32) + first;
         tries += 1;
-        if n.mask < power {
+        if bounds.mask < power {
             return Tried {
                 limit: Limit {
                     bits: bits,
@@ -145,8 +185,7 @@ fn limit_of(tone: Tone, cost: u32) -> Tried
 
 // What is found of a tone that is described and not silenced.
 pub fn steps_of(gap: u16, tone: Tone) -> Steps
-    requires { ⌜ PartsInRange gap ⌝ }
-    requires { ⌜ InRange tone ⌝ }
+    requires { ⌜ InRange gap tone ⌝ }
     ensures { λ r. ⌜ r ≡ stepsOf gap tone ⌝ }
 {
     let w = cost(gap, tone);

@@ -1,12 +1,19 @@
 -- What the command at a place of a sheet carries: the tone that it addresses, and the tone that it describes.
 -- Assumes nothing.
+use mathlib.Core.Bool.{cond}
 use mathlib.Core.List.{List}
 use Prim.Native.Nat.{ℕ, zero, suc, _+_}
 use lib.Dec.{eqb}
+use lib.Ieee.{Float}
 use lib.ListN.{getD}
 use Rattle.bigendian.specs.Number.{numberAt}
+use Rattle.readings.specs.declared.Reading.the-variants.{Both, Ratio}
+use Rattle.readings.specs.Reading.{floatOf}
+use Rattle.line.specs.declared.Numbers.{Numbers}
+use Rattle.line.specs.declared.ReadNumbers.{ReadNumbers}
+use Rattle.line.specs.declared.Kind.{Kind}
+use Rattle.line.specs.declared.Kind.the-variants.{Pair, Single, Read}
 use Rattle.line.specs.declared.Tone.{Tone}
-use Rattle.line.specs.Tone.{kindOf}
 use Rattle.line.specs.Line.{Entry, undescribed, described}
 
 -- The tone that the command at a place addresses, if it addresses one: the byte after the command's own.
@@ -14,11 +21,35 @@ abbrev pub addressed : List ℕ → (at : ℕ) → ℕ
 addressed s at = getD s (at + 1) 0
 
 -- 'tone 1, noise 2, gain 2, cap 1, mask 8', after the command's byte; what is not there reads as 0
-abbrev pub toneAt : List ℕ → (place : ℕ) → Tone
-toneAt s place = record {
-  kind = kindOf (eqb (getD s place 0) 0x05)
-      (record { noise = numberAt s (place + 2) 2; gain = numberAt s (place + 4) 2; cap = getD s (place + 6) 0; mask = numberAt s (place + 7) 8 });
+abbrev pub numbersAt : List ℕ → (place : ℕ) → Numbers
+numbersAt s place =
+    record { noise = numberAt s (place + 2) 2; gain = numberAt s (place + 4) 2; cap = getD s (place + 6) 0; mask = numberAt s (place + 7) 8 }
+
+-- W5, '32-bit IEEE floats', high byte first
+abbrev pub floatAt : List ℕ → (at : ℕ) → Float
+floatAt s at = floatOf (numberAt s at 4)
+
+-- W5, 09: 'tone, noise float, gain float, cap, mask'
+abbrev pub levelsAt : List ℕ → (place : ℕ) → ReadNumbers
+levelsAt s place = record {
+  reading = Both (record { noise = floatAt s (place + 2); gain = floatAt s (place + 6) });
+  cap = getD s (place + 10) 0;
+  mask = numberAt s (place + 11) 8;
 }
+
+-- W5, 0A: 'tone, ratio float, cap, mask'
+abbrev pub ratioAt : List ℕ → (place : ℕ) → ReadNumbers
+ratioAt s place = record { reading = Ratio (floatAt s (place + 2)); cap = getD s (place + 6) 0; mask = numberAt s (place + 7) 8 }
+
+-- the tone that the command of a byte describes, every other byte's as a pair tone
+abbrev pub kindAt : (code : ℕ) → List ℕ → (place : ℕ) → Kind
+kindAt code s place =
+    cond (eqb code 0x05) (Single (numbersAt s place))
+    (cond (eqb code 0x09) (Read (levelsAt s place))
+    (cond (eqb code 0x0a) (Read (ratioAt s place)) (Pair (numbersAt s place))))
+
+abbrev pub toneAt : List ℕ → (place : ℕ) → Tone
+toneAt s place = record { kind = kindAt (getD s place 0) s place }
 
 -- the entry of a tone whose command stands at a place, and 0 where none does: no tone's command stands at 0
 abbrev pub entryAt : List ℕ → (place : ℕ) → Entry

@@ -1,15 +1,17 @@
 // What stands at a place of a sheet: the tone that a command addresses, and the tone that it describes, decoded where it is wanted.
-// Document 01, 'The line sheet'.
+// Document 01, 'The line sheet', and document 02, W5.
 ghost use mathlib.Core.Path.{_≡_};
-ghost use Prim.Native.Nat.{_<_};
+ghost use Prim.Native.Nat.{_+_, _<_};
 ghost use lib.ListN.{getD};
 ghost use Rattle.sizes.specs.Sizes.{mostTones};
 ghost use Rattle.lists.specs.Lent.{before};
-ghost use Rattle.line.specs.Tone.{kindOf};
-ghost use Rattle.places.specs.Places.{addressed, toneAt};
+ghost use Rattle.places.specs.Places.{addressed, numbersAt, floatAt, levelsAt, ratioAt, toneAt};
 use line::Kind;
 use line::Numbers;
+use line::ReadNumbers;
 use line::Tone;
+use readings::Levels;
+use readings::Reading;
 
 // The byte at a place, or 0 past the end.
 fn byte_at(s: &[u8], at: usize) -> u8
@@ -32,30 +34,72 @@ pub fn addressed(s: &[u8], at: usize) -> usize
     byte_at(s, at + 1) as usize
 }
 
-// A tone of either kind.
-fn tone_of(is_single: bool, numbers: Numbers) -> Tone
-    ensures { λ r. ⌜ r ≡ record { kind = kindOf «is_single» numbers } ⌝ }
-{
-    if is_single {
-        return Tone {
-            kind: Kind::Single(numbers),
-        };
-    }
-    Tone {
-        kind: Kind::Pair(numbers),
-    }
-}
-
-// The tone whose command stands at a place. What is not there reads as 0.
-pub fn tone_at(s: &[u8], place: u16) -> Tone
-    ensures { λ r. ⌜ r ≡ toneAt (before s) place ⌝ }
+// What a tone's command with whole numbers carries. What is not there reads as 0, here and below.
+fn numbers_at(s: &[u8], place: u16) -> Numbers
+    ensures { λ r. ⌜ r ≡ numbersAt (before s) place ⌝ }
 {
     let at = place as usize;
-    let numbers = Numbers {
+    Numbers {
         noise: bigendian::number_at(s, at + 2, 2) as u16,
         gain: bigendian::number_at(s, at + 4, 2) as u16,
         cap: byte_at(s, at + 6),
         mask: bigendian::number_at(s, at + 7, 8),
+    }
+}
+
+// The float at so many bytes from a place. One that is not finite or not above zero reads as 0.
+fn float_at(s: &[u8], place: u16, from: u8) -> f32
+    ensures { λ r. ⌜ r ≡ floatAt (before s) (place + from) ⌝ }
+{
+    let bits = bigendian::number_at(s, place as usize + from as usize, 4) as u32;
+    readings::float_of(bits)
+}
+
+// What a tone's command with noise and gain as floats carries.
+fn levels_at(s: &[u8], place: u16) -> ReadNumbers
+    ensures { λ r. ⌜ r ≡ levelsAt (before s) place ⌝ }
+{
+    let at = place as usize;
+    let levels = Levels {
+        noise: float_at(s, place, 2),
+        gain: float_at(s, place, 6),
     };
-    tone_of(byte_at(s, at) == 5, numbers)
+    ReadNumbers {
+        reading: Reading::Both(levels),
+        cap: byte_at(s, at + 10),
+        mask: bigendian::number_at(s, at + 11, 8),
+    }
+}
+
+// What a tone's command with their ratio as a float carries.
+fn ratio_at(s: &[u8], place: u16) -> ReadNumbers
+    ensures { λ r. ⌜ r ≡ ratioAt (before s) place ⌝ }
+{
+    let at = place as usize;
+    ReadNumbers {
+        reading: Reading::Ratio(float_at(s, place, 2)),
+        cap: byte_at(s, at + 6),
+        mask: bigendian::number_at(s, at + 7, 8),
+    }
+}
+
+// The tone whose command stands at a place.
+pub fn tone_at(s: &[u8], place: u16) -> Tone
+    ensures { λ r. ⌜ r ≡ toneAt (before s) place ⌝ }
+{
+    let code = byte_at(s, place as usize);
+    match code {
+        5 => Tone {
+            kind: Kind::Single(numbers_at(s, place)),
+        },
+        9 => Tone {
+            kind: Kind::Read(levels_at(s, place)),
+        },
+        10 => Tone {
+            kind: Kind::Read(ratio_at(s, place)),
+        },
+        _ => Tone {
+            kind: Kind::Pair(numbers_at(s, place)),
+        },
+    }
 }

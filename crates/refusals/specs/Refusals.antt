@@ -1,10 +1,10 @@
--- Document 01, 'Why a sheet is turned down': the number and the place of each refusal.
+-- Document 01, 'Why a sheet is turned down', and document 02, W5: the number and the place of each refusal.
 -- Assumes nothing.
 use mathlib.Core.List.{List}
 use Prim.Native.Nat.{ℕ}
 use lib.ListN.{replicate}
 use Rattle.refusals.specs.declared.Refusal.{Refusal}
-use Rattle.refusals.specs.declared.Refusal.the-variants.{SheetTooLong, SheetEnds, CommandNotAllowed, OperandOutOfRange, ToneBeyondLine, ToneRepeated, BytesAfterEnd, DestinationTooSmall, StartLengthWrong, StartAboveLimit, TargetNotCarried}
+use Rattle.refusals.specs.declared.Refusal.the-variants.{SheetTooLong, SheetEnds, CommandNotAllowed, OperandOutOfRange, ToneBeyondLine, ToneRepeated, BytesAfterEnd, DestinationTooSmall, StartLengthWrong, StartAboveLimit, TargetNotCarried, FloatOutOfRange, CostOutOfRange}
 
 abbrev pub refusalNumber : Refusal → ℕ
 refusalNumber SheetTooLong = 1
@@ -18,6 +18,8 @@ refusalNumber DestinationTooSmall = 8
 refusalNumber StartLengthWrong = 9
 refusalNumber (StartAboveLimit tone) = 10
 refusalNumber TargetNotCarried = 11
+refusalNumber (FloatOutOfRange place) = 12
+refusalNumber (CostOutOfRange place) = 13
 
 abbrev pub refusalPlace : Refusal → ℕ
 refusalPlace SheetTooLong = 0
@@ -31,6 +33,8 @@ refusalPlace DestinationTooSmall = 0
 refusalPlace StartLengthWrong = 0
 refusalPlace (StartAboveLimit tone) = tone
 refusalPlace TargetNotCarried = 0
+refusalPlace (FloatOutOfRange place) = place
+refusalPlace (CostOutOfRange place) = place
 
 -- What a call answers in document 01's numbers: 'Each refusal answers its number and a place, all other numbers 0 .. Success answers
 -- number 0 and place 0.'

@@ -1,8 +1,8 @@
-// Why a sheet or a call is turned down, with number and place: document 01, 'Why a sheet is turned down'.
+// Why a sheet or a call is turned down, with number and place: document 01, 'Why a sheet is turned down', and document 02, W5.
 ghost use mathlib.Core.Path.{_≡_};
 ghost use Rattle.refusals.specs.Refusals.{refusalNumber, refusalPlace};
 
-// Document 01's list, in its order, each case with its place where that is not 0.
+// Document 01's list in its order, then document 02's, each case with its place where that is not 0.
 pub enum Refusal {
     SheetTooLong,
     SheetEnds(u16),
@@ -15,9 +15,11 @@ pub enum Refusal {
     StartLengthWrong,
     StartAboveLimit(u16),
     TargetNotCarried,
+    FloatOutOfRange(u16),
+    CostOutOfRange(u16),
 }
 
-// The number of a refusal in document 01's list.
+// The number of a refusal in the documents' list.
 pub fn refusal_number(refusal: Refusal) -> u32
     ensures { λ r. ⌜ r ≡ refusalNumber refusal ⌝ }
 {
@@ -33,6 +35,8 @@ pub fn refusal_number(refusal: Refusal) -> u32
         Refusal::StartLengthWrong => 9,
         Refusal::StartAboveLimit(_) => 10,
         Refusal::TargetNotCarried => 11,
+        Refusal::FloatOutOfRange(_) => 12,
+        Refusal::CostOutOfRange(_) => 13,
     }
 }
 
@@ -52,5 +56,7 @@ pub fn refusal_place(refusal: Refusal) -> u32
         Refusal::StartLengthWrong => 0,
         Refusal::StartAboveLimit(place) => place as u32,
         Refusal::TargetNotCarried => 0,
+        Refusal::FloatOutOfRange(place) => place as u32,
+        Refusal::CostOutOfRange(place) => place as u32,
     }
 }

@@ -1,43 +1,44 @@
 -- Laws of the rows:
 -- - `below`, `above`, `in-range`: what an operand with a range decides;
--- - `one-operand`, `silence-operands`, `tone-operands`: each command as a chain of tests at the places of its operands;
+-- - `one-operand`, `silence-operands`: a command as a chain of tests at the places of its operands;
+-- - `tone-operands`, `number-operands`, `level-operands`, `ratio-operands`, `cap-operands`: the same of a tone's, from one operand on;
 -- - `described-at`: whether a tone is described, from its place;
--- - `header-width`, `tone-width`, `tone-row`, `end-row`: the rows by their bytes, as the code finds them;
--- - `code-too-long`, `code-cut`, `code-whole`: the command of a byte at a place.
+-- - `header-width`, `number-codes`, `tone-row`, `end-row`: the rows by their bytes, as the code finds them.
 -- Assumes nothing.
 use mathlib.Core.Path.{_≡_, refl, sym, _∙_}
 use mathlib.Core.Bool.{Bool, true, false, cond}
-use mathlib.Core.Logic.{_⊎_, inl, inr, ⊎-elim}
+use mathlib.Core.Logic.{⊎-elim}
 use mathlib.Core.List.{List, [], _∷_}
 use mathlib.Core.Option.{Option, none, some}
 use Prim.Native.Nat.{ℕ, zero, suc, _+_, _-_, _≤_, _<_}
-use native.Mathlib.Decide.{ℕ-discrete}
 use native.Mathlib.Nat.{add-assoc}
 use native.Mathlib.Omega.{arith}
 use borrow.Author.Tests.{le-ltb, lt-ltb, ne-eqb}
-use lib.Dec.{T, leb, ltb, eqb, ltb→lt}
-use lib.ListN.{length, getD}
-use Rattle.sizes.specs.Sizes.{mostWords, mostPower, longestSheet, toneCommand}
+use lib.Dec.{leb, ltb, eqb}
+use lib.ListN.{getD}
+use Rattle.sizes.specs.Sizes.{mostWords, pairCap, mostPower}
 use Rattle.bigendian.specs.Number.{number}
 use Rattle.bigendian.proofs.Numbers.{number-one}
 use Rattle.silence.specs.Map.{namesBeyond}
+use Rattle.gaps.specs.Gap.{parts}
+use Rattle.readings.specs.Reading.{isUsable, isOver}
 use Rattle.line.specs.Tone.{mostCap}
 use Rattle.line.specs.Line.{Entry, isDescribed}
 use Rattle.refusals.specs.declared.Refusal.{Refusal}
-use Rattle.refusals.specs.declared.Refusal.the-variants.{SheetTooLong, SheetEnds, OperandOutOfRange, ToneBeyondLine, ToneRepeated}
+use Rattle.refusals.specs.declared.Refusal.the-variants.{OperandOutOfRange, ToneBeyondLine, ToneRepeated, FloatOutOfRange, CostOutOfRange}
 use Rattle.places.specs.Places.{entryAt}
 use Rattle.rows.specs.declared.Header.{Header}
 use Rattle.rows.specs.declared.Command.{Command}
 use Rattle.rows.specs.declared.Command.the-variants.{Describe, Silence, Refused}
-use Rattle.rows.specs.Rows.{within, tone, end, width, judged, rowAt}
-use Rattle.rows.specs.Codes.{silenceRow, toneRow, orEnd, rowOf, codeAt}
+use Rattle.rows.specs.Rows.{within, capAndMask, numbers, levelsOf, ratioOf, levelOperands, ratioOperands, end, width, judged, describesFrom, rowAt}
+use Rattle.rows.specs.Codes.{silenceRow, ToneCode, toneOperands, toneRow, orEnd, rowOf}
 
 -- ---- operands
 
 -- a refusal that a test decides
-judged-cond : (t : Bool) (r : Refusal) (o : Option Refusal) (c : Command) → judged (cond t (some r) o) c ≡ cond t (Refused r) (judged o c)
-judged-cond true r o c = refl
-judged-cond false r o c = refl
+judged-cond : (t : Bool) (o q : Option Refusal) (c : Command) → judged (cond t o q) c ≡ cond t (judged o c) (judged q c)
+judged-cond true o q c = refl
+judged-cond false o q c = refl
 
 abbrev pub outOfRange : (place : ℕ) → Command
 outOfRange place = Refused (OperandOutOfRange place)
@@ -78,30 +79,49 @@ pub silence-operands : (h : Header) (known : Entry) (s : List ℕ) (at : ℕ)
 unfolding rowAt ranged
 silence-operands h known s at = simp (judged-cond, number-one, add-assoc)
 
--- a tone command of either kind, from its mask on, from its cap on, from its gain on, from its noise on, and all of it
-module _ (s : List ℕ) (at : ℕ) (isSingle : Bool) where
-  abbrev pub fromMask : Command
-  fromMask = ranged (number s (at + 7) 8) 0 mostPower (at + 7) (Describe (getD s (at + 1) 0))
-
-  abbrev pub fromCap : Command
-  fromCap = ranged (getD s (at + 6) 0) 0 (mostCap isSingle) (at + 6) fromMask
-
-  abbrev pub fromGain : Command
-  fromGain = ranged (number s (at + 4) 2) 1 65535 (at + 4) fromCap
-
-  abbrev pub fromNoise : Command
-  fromNoise = ranged (number s (at + 2) 2) 1 65535 (at + 2) fromGain
-
-pub tone-operands : (h : Header) (known : Entry) (s : List ℕ) (at : ℕ) (isSingle : Bool)
-    → rowAt h known s at (toneRow isSingle)
+-- a command that describes a tone, and then from one operand on
+pub tone-operands : (h : Header) (known : Entry) (s : List ℕ) (at code : ℕ)
+    → rowAt h known s at (toneRow code)
     ≡ cond (leb (h .size) (getD s (at + 1) 0)) (Refused (ToneBeyondLine (at + 1)))
-    (cond (isDescribed known) (Refused (ToneRepeated (at + 1))) (fromNoise s at isSingle))
-unfolding rowAt ranged
-tone-operands h known s at isSingle = either isSingle ∙ simp (judged-cond, number-one, add-assoc)
-  where
-    either : (isSingle : Bool) → rowAt h known s at (toneRow isSingle) ≡ rowAt h known s at (tone 0x04 isSingle)
-    either false = refl
-    either true = refl
+    (cond (isDescribed known) (Refused (ToneRepeated (at + 1))) (describesFrom h known (getD s (at + 1) 0 ∷ []) s (at + 2) (toneOperands code)))
+unfolding rowAt
+tone-operands h known s at code = simp (judged-cond, number-one, add-assoc)
+
+module _ (h : Header) (known : Entry) (s : List ℕ) (at i : ℕ) where
+  pub number-operands : (isSingle : Bool) → (let noise = number s (at + 2) 2 in let gain = number s (at + 4) 2 in
+      describesFrom h known (i ∷ []) s (at + 2) (numbers isSingle)
+      ≡ ranged noise 1 65535 (at + 2)
+      (ranged gain 1 65535 (at + 4) (describesFrom h known (i ∷ noise ∷ gain ∷ []) s (at + 6) (capAndMask (mostCap isSingle)))))
+  unfolding ranged
+  number-operands isSingle = simp (judged-cond, add-assoc)
+
+  pub level-operands : (let noise = number s (at + 2) 4 in let gain = number s (at + 6) 4 in
+      describesFrom h known (i ∷ []) s (at + 2) levelOperands
+      ≡ cond (isUsable noise)
+      (cond (isUsable gain)
+      (cond (isOver (parts (h .gap)) (levelsOf (i ∷ noise ∷ gain ∷ []))) (Refused (CostOutOfRange (at + 2)))
+      (describesFrom h known (i ∷ noise ∷ gain ∷ []) s (at + 10) (capAndMask pairCap)))
+      (Refused (FloatOutOfRange (at + 6))))
+      (Refused (FloatOutOfRange (at + 2))))
+  level-operands =
+      let back : at + 6 - 4 ≡ at + 2 = omega arith in
+      simp (judged-cond, add-assoc, back)
+
+  pub ratio-operands : (let bits = number s (at + 2) 4 in
+      describesFrom h known (i ∷ []) s (at + 2) ratioOperands
+      ≡ cond (isUsable bits)
+      (cond (isOver (parts (h .gap)) (ratioOf (i ∷ bits ∷ []))) (Refused (CostOutOfRange (at + 2)))
+      (describesFrom h known (i ∷ bits ∷ []) s (at + 6) (capAndMask pairCap)))
+      (Refused (FloatOutOfRange (at + 2))))
+  ratio-operands =
+      let back : at + 2 - 0 ≡ at + 2 = omega arith in
+      simp (judged-cond, add-assoc, back)
+
+  pub cap-operands : (values : List ℕ) (most : ℕ)
+      → describesFrom h known (i ∷ values) s at (capAndMask most)
+      ≡ ranged (getD s at 0) 0 most at (ranged (number s (at + 1) 8) 0 mostPower (at + 1) (Describe i))
+  unfolding ranged
+  cap-operands values most = simp (judged-cond, number-one)
 
 -- a tone is described where its command has a place
 pub described-at : (s : List ℕ) (place : ℕ) → isDescribed (entryAt s place) ≡ ltb 0 place
@@ -117,47 +137,25 @@ header-width (suc zero) l h = refl
 header-width (suc (suc zero)) l h = refl
 header-width (suc (suc (suc n))) l h = absurd (omega arith)
 
-pub tone-width : (isSingle : Bool) → 1 + width (toneRow isSingle .operands) ≡ toneCommand
-tone-width false = refl
-tone-width true = refl
-
--- the tone rows are those of the bytes 4 and 5
-pub four-or-five : (code : ℕ) → 4 ≤ code → code < 6 → (code ≡ 4) ⊎ (code ≡ 5)
-four-or-five code low high = by (ℕ-discrete code 4)
+-- a byte that describes a tone, other than 9 and 10, has noise and gain as whole numbers
+pub number-codes : (code : ℕ) → (code ≡ 9 → ⊥) → (code ≡ 10 → ⊥) → toneOperands code ≡ numbers (eqb code 5)
+number-codes code p q = rw (ne-eqb code 9 p, ne-eqb code 10 q) (by (eqb code 5))
   where
-    by : Dec (code ≡ 4) → (code ≡ 4) ⊎ (code ≡ 5)
-    by (yes e) = inl e
-    by (no ne) = inr (omega arith)
+    by : (t : Bool) → cond t (numbers true) (numbers false) ≡ numbers t
+    by true = refl
+    by false = refl
 
-pub tone-row : (code : ℕ) → 4 ≤ code → code < 6 → toneRow (eqb code 5) ≡ rowOf code
-tone-row code low high = ⊎-elim (λ e. rw e) (λ e. rw e) (four-or-five code low high)
+-- the rows of the bytes that describe a tone
+pub tone-row : (code : ℕ) → ToneCode code → toneRow code ≡ rowOf code
+tone-row code = ⊎-elim (⊎-elim (λ e. rw e) (λ e. rw e)) (⊎-elim (λ e. rw e) (λ e. rw e))
 
--- 7, and every byte above it but 8, is taken for the end
-pub end-row : (code : ℕ) → 7 ≤ code → (code ≡ 8 → ⊥) → rowOf code ≡ end
-end-row code l n = rw (other 1 tt, other 2 tt, ne-eqb code 8 n, other 3 tt, other 4 tt, other 5 tt, other 6 tt) (either (eqb code 7))
+-- 7, and every byte that is none of the other commands', is taken for the end
+pub end-row : (code : ℕ) → (code ≡ 1 → ⊥) → (code ≡ 2 → ⊥) → (code ≡ 3 → ⊥) → (code ≡ 4 → ⊥) → (code ≡ 5 → ⊥) → (code ≡ 6 → ⊥) → (code ≡ 8 → ⊥)
+    → (code ≡ 9 → ⊥) → (code ≡ 10 → ⊥) → rowOf code ≡ end
+end-row code p1 p2 p3 p4 p5 p6 p8 p9 p10 =
+    rw (ne-eqb code 1 p1, ne-eqb code 2 p2, ne-eqb code 8 p8, ne-eqb code 3 p3, ne-eqb code 4 p4, ne-eqb code 5 p5, ne-eqb code 6 p6, ne-eqb code 9 p9, ne-eqb code 10 p10)
+    (either (eqb code 7))
   where
     either : (t : Bool) → orEnd (cond t (some end) none) ≡ end
     either true = refl
     either false = refl
-
-    other : (k : ℕ) → T (ltb k 7) → eqb code k ≡ false
-    other k h = ne-eqb code k (λ e. omega (arith, ltb→lt k 7 h))
-
--- ---- the command of a byte
-
-module _ (h : Header) (known : Entry) (s : List ℕ) (at code : ℕ) where
-  pub code-too-long : longestSheet < length s → codeAt h known s at code ≡ record { command = Refused SheetTooLong; next = at }
-  unfolding codeAt
-  code-too-long long = rw (lt-ltb longestSheet (length s) long)
-
-  module _ (short : length s ≤ longestSheet) where
-    pub code-cut : length s < at + 1 + width (rowOf code .operands) → codeAt h known s at code ≡ record { command = Refused (SheetEnds (length s)); next = at }
-    unfolding codeAt
-    code-cut l = rw (le-ltb longestSheet (length s) short, lt-ltb (length s) (at + 1 + width (rowOf code .operands)) l)
-
-    pub code-whole : {bytes : ℕ} → bytes ≡ 1 + width (rowOf code .operands) → at + bytes ≤ length s
-        → codeAt h known s at code ≡ record { command = rowAt h known s at (rowOf code); next = at + bytes }
-    unfolding codeAt
-    code-whole {bytes} e l =
-        let next : at + 1 + width (rowOf code .operands) ≡ at + bytes = omega arith in
-        rw (le-ltb longestSheet (length s) short, next, le-ltb (length s) (at + bytes) l)

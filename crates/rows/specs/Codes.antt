@@ -1,18 +1,14 @@
 -- The rows of document 01's sizes by their command bytes, as the code finds them.
 -- Assumes nothing.
-use mathlib.Core.Bool.{Bool, true, false, cond}
+use mathlib.Core.Bool.{true, false, cond}
 use mathlib.Core.List.{List, _++_}
+use mathlib.Core.Logic.{_⊎_}
 use mathlib.Core.Option.{Option, none, some}
-use Prim.Native.Nat.{ℕ}
-use lib.Dec.{ltb}
-use lib.ListN.{length}
-use Rattle.sizes.specs.Sizes.{mostTones, mostWords, longestSheet}
-use Rattle.line.specs.Line.{Entry}
-use Rattle.refusals.specs.declared.Refusal.the-variants.{SheetTooLong}
-use Rattle.rows.specs.declared.Header.{Header}
-use Rattle.rows.specs.declared.Command.the-variants.{Refused}
-use Rattle.rows.specs.declared.Decoded.{Decoded}
-use Rattle.rows.specs.Rows.{Row, size, pair, single, silence, end, rowsOf, withCode, rowAt, wholeRow}
+use mathlib.Core.Path.{_≡_}
+use Prim.Native.Nat.{ℕ, _+_}
+use lib.Dec.{eqb}
+use Rattle.sizes.specs.Sizes.{mostTones, mostWords}
+use Rattle.rows.specs.Rows.{Operand, Row, size, describing, numbers, levelOperands, ratioOperands, silence, end, rowsOf, withCode, width}
 
 abbrev pub sizeRow : Row
 sizeRow = size mostTones
@@ -20,9 +16,16 @@ sizeRow = size mostTones
 abbrev pub silenceRow : Row
 silenceRow = silence mostWords
 
-abbrev pub toneRow : (single : Bool) → Row
-toneRow false = pair
-toneRow true = single
+-- the operands after the tone's number of a byte that describes a tone; every other byte has a pair tone's
+abbrev pub toneOperands : (code : ℕ) → List Operand
+toneOperands code = cond (eqb code 0x05) (numbers true) (cond (eqb code 0x09) levelOperands (cond (eqb code 0x0a) ratioOperands (numbers false)))
+
+abbrev pub toneRow : (code : ℕ) → Row
+toneRow code = describing code (toneOperands code)
+
+-- a byte that describes a tone
+abbrev pub ToneCode : (code : ℕ) → Type 0
+ToneCode code = ((code ≡ 0x04) ⊎ (code ≡ 0x05)) ⊎ ((code ≡ 0x09) ⊎ (code ≡ 0x0a))
 
 -- the rows of a stage, and of every stage
 abbrev pub rowsIn : (stage : ℕ) → List Row
@@ -39,10 +42,6 @@ orEnd (some r) = r
 abbrev pub rowOf : (code : ℕ) → Row
 rowOf code = orEnd (withCode allRows code)
 
--- What the command of a byte does at a place of any bytes, with the place after it: refusal 1 of more than a sheet has, else as its row has
--- it.
-unfoldable pub codeAt : Header → (known : Entry) → List ℕ → (at code : ℕ) → Decoded
-unfolding rowAt
-codeAt h known s at code =
-    cond (ltb longestSheet (length s)) (record { command = Refused SheetTooLong; next = at })
-    (wholeRow h known s at (rowOf code))
+-- how many bytes its command has in all
+abbrev pub commandBytes : (code : ℕ) → ℕ
+commandBytes code = 1 + width (rowOf code .operands)

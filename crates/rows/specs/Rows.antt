@@ -1,4 +1,4 @@
--- The commands of a sheet, one row for each. Document 01, 'The line sheet' and 'Why a sheet is turned down'; document 02, W1.
+-- The commands of a sheet, one row for each. Document 01, 'The line sheet' and 'Why a sheet is turned down'; document 02, W1 and W5.
 -- Assumes nothing.
 use mathlib.Core.Bool.{Bool, true, false, cond}
 use mathlib.Core.List.{List, [], _∷_, _++_}
@@ -6,15 +6,18 @@ use mathlib.Core.Option.{Option, none, some}
 use Prim.Native.Nat.{ℕ, zero, suc, _+_, _-_}
 use lib.Dec.{leb, ltb, eqb}
 use lib.ListN.{length, getD}
-use Rattle.sizes.specs.Sizes.{mostPower}
+use Rattle.sizes.specs.Sizes.{pairCap, mostPower}
 use Rattle.bigendian.specs.Number.{number}
 use Rattle.silence.specs.Map.{namesBeyond}
 use Rattle.gaps.specs.declared.Gap.the-variants.{Parts, Tenths}
-use Rattle.gaps.specs.Gap.{gapUnit, mostGap, mostTenths}
+use Rattle.gaps.specs.Gap.{gapUnit, mostGap, mostTenths, parts}
+use Rattle.readings.specs.declared.Reading.{Reading}
+use Rattle.readings.specs.declared.Reading.the-variants.{Both, Ratio}
+use Rattle.readings.specs.Reading.{isUsable, floatOf, isOver}
 use Rattle.line.specs.Tone.{mostCap}
 use Rattle.line.specs.Line.{Entry, isDescribed}
 use Rattle.refusals.specs.declared.Refusal.{Refusal}
-use Rattle.refusals.specs.declared.Refusal.the-variants.{SheetEnds, OperandOutOfRange, ToneBeyondLine, ToneRepeated}
+use Rattle.refusals.specs.declared.Refusal.the-variants.{SheetEnds, OperandOutOfRange, ToneBeyondLine, ToneRepeated, FloatOutOfRange, CostOutOfRange}
 use Rattle.rows.specs.declared.Header.{Header}
 use Rattle.rows.specs.declared.Command.{Command}
 use Rattle.rows.specs.declared.Command.the-variants.{End, Refused, Head, Describe, Silence}
@@ -46,12 +49,34 @@ toneNumber width = record {
   judge = λ seen v place. cond (leb (seen .header .size) v) (some (ToneBeyondLine place)) (cond (isDescribed (seen .known)) (some (ToneRepeated place)) none);
 }
 
+-- W5, refusal 12: 'a float is not finite or not above zero, placed at that float and judged where range 4 would be'
+abbrev pub float : Operand
+float = record { width = 4; judge = λ seen v place. cond (isUsable v) none (some (FloatOutOfRange place)) }
+
+-- W5, the last float of a command. Refusal 13: 'the quotient is infinite or the cost is over 16,776,705, placed at the first float and judged
+-- straight after the last float of its command'. The first float stands so many bytes before it; the reading is that of the operands up to it.
+abbrev pub lastFloat : (back : ℕ) → (reading : List ℕ → Reading) → Operand
+lastFloat back reading = record {
+  width = 4;
+  judge = λ seen v place.
+      cond (isUsable v)
+      (cond (isOver (parts (seen .header .gap)) (reading (seen .before ++ (v ∷ [])))) (some (CostOutOfRange (place - back))) none)
+      (some (FloatOutOfRange place));
+}
+
 -- refusal 5: 'a map names such a tone'; the word stands before it
 abbrev pub map : Operand
 map = record {
   width = 4;
   judge = λ seen v place. cond (namesBeyond (seen .header .size) (getD (seen .before) 0 0) v) (some (ToneBeyondLine place)) none;
 }
+
+-- W5, 'either as noise and gain or as their ratio': the reading of operands whose first is the tone
+abbrev pub levelsOf : List ℕ → Reading
+levelsOf v = Both (record { noise = floatOf (getD v 1 0); gain = floatOf (getD v 2 0) })
+
+abbrev pub ratioOf : List ℕ → Reading
+ratioOf v = Ratio (floatOf (getD v 1 0))
 
 -- A command: its byte, its operands, and what it does, of the header so far and their values.
 pub record Row : Type 0 where
@@ -89,19 +114,36 @@ tenths = record {
   does = λ h v. Head (record { size = h .size; gap = Tenths (getD v 0 0); budget = h .budget });
 }
 
+-- the last operands of a tone: 'cap 1, mask 8'
+abbrev pub capAndMask : (most : ℕ) → List Operand
+capAndMask most = within 1 0 most ∷ within 8 0 mostPower ∷ []
+
+-- a command that describes a tone: the tone's number, then what the tone carries
+abbrev pub describing : (code : ℕ) → List Operand → Row
+describing code carried = record { code = code; operands = toneNumber 1 ∷ carried; does = λ h v. Describe (getD v 0 0) }
+
 -- 04 pair tone and 05 single tone: 'tone 1, noise 2, gain 2, cap 1, mask 8'
-abbrev pub tone : (code : ℕ) → (single : Bool) → Row
-tone code isSingle = record {
-  code = code;
-  operands = toneNumber 1 ∷ within 2 1 65535 ∷ within 2 1 65535 ∷ within 1 0 (mostCap isSingle) ∷ within 8 0 mostPower ∷ [];
-  does = λ h v. Describe (getD v 0 0);
-}
+abbrev pub numbers : (single : Bool) → List Operand
+numbers isSingle = within 2 1 65535 ∷ within 2 1 65535 ∷ capAndMask (mostCap isSingle)
 
 abbrev pub pair : Row
-pair = tone 0x04 false
+pair = describing 0x04 (numbers false)
 
 abbrev pub single : Row
-single = tone 0x05 true
+single = describing 0x05 (numbers true)
+
+-- W5: 'Command 09 carries tone, noise float, gain float, cap, mask; 0A carries tone, ratio float, cap, mask.'
+abbrev pub levelOperands : List Operand
+levelOperands = float ∷ lastFloat 4 levelsOf ∷ capAndMask pairCap
+
+abbrev pub ratioOperands : List Operand
+ratioOperands = lastFloat 0 ratioOf ∷ capAndMask pairCap
+
+abbrev pub levels : Row
+levels = describing 0x09 levelOperands
+
+abbrev pub ratio : Row
+ratio = describing 0x0a ratioOperands
 
 -- 06 silence: 'word 1 (0 to 7), map 4'. The words are the format's.
 abbrev pub silence : (words : ℕ) → Row
@@ -125,9 +167,16 @@ tenthsRows zero = []
 tenthsRows (suc zero) = tenths ∷ []
 tenthsRows (suc (suc n)) = []
 
--- those of document 01 and of the requests
+-- W5: 09 and 0A stand where 04 and 05 do
+abbrev pub readingRows : (stage : ℕ) → List Row
+readingRows zero = []
+readingRows (suc zero) = []
+readingRows (suc (suc zero)) = []
+readingRows (suc (suc (suc n))) = levels ∷ ratio ∷ []
+
+-- those of document 01 and of the requests, in the order in which they came
 abbrev pub rowsOf : (tones words stage : ℕ) → List Row
-rowsOf tones words stage = firstRows tones words stage ++ tenthsRows stage
+rowsOf tones words stage = (firstRows tones words stage ++ tenthsRows stage) ++ readingRows stage
 
 abbrev pub withCode : List Row → (code : ℕ) → Option Row
 withCode [] code = none
@@ -148,6 +197,10 @@ operandsFrom seen s at [] does = does (seen .before)
 operandsFrom seen s at (o ∷ os) does =
     judged (o .judge seen (number s at (o .width)) at)
     (operandsFrom (record { header = seen .header; known = seen .known; before = seen .before ++ (number s at (o .width) ∷ []) }) s (at + o .width) os does)
+
+-- what a command that describes a tone does from an operand on, of the values before it
+abbrev pub describesFrom : Header → (known : Entry) → (values : List ℕ) → List ℕ → (at : ℕ) → List Operand → Command
+describesFrom h known values s at os = operandsFrom (record { header = h; known = known; before = values }) s at os (λ v. Describe (getD v 0 0))
 
 -- What the command of a row does at a place, all of whose bytes are there.
 unfoldable pub rowAt : Header → (known : Entry) → List ℕ → (at : ℕ) → Row → Command

@@ -18,8 +18,8 @@ use Rattle.rows.specs.declared.Command.the-variants.{End, Refused, Head, Descri
 use Rattle.rows.specs.declared.Decoded.{Decoded}
 use Rattle.rows.specs.Rows.{Row, width, withCode}
 use Rattle.places.specs.Places.{addressed}
-use Rattle.command.specs.Format.{Format, document01, today, isTooLong, decodedRow, decoded, isRefused, Covered, Within}
-use Rattle.command.proofs.Formats.{tenths-within}
+use Rattle.command.specs.Format.{Format, document01, withTenths, today, isTooLong, decodedRow, decoded, isRefused, Covered, Within}
+use Rattle.command.proofs.Formats.{tenths-within, readings-within}
 use Rattle.sheet.specs.Reading.{accepted, refused, headerOf, emptyLine, afterCommand, commandIn, readOn, readFrom, readingIn, reading}
 
 -- a refusal is no line
@@ -74,6 +74,10 @@ module _ (F G : Format) (wider : Within F G) where
 pub accepted-wider : (F G : Format) → Within F G → (s : List ℕ) (l : Line) → readingIn F s ≡ accepted l → readingIn G s ≡ accepted l
 accepted-wider = wider-reading
 
--- W1: a sheet that document 01's format accepts is accepted, and means the same line
+-- W5: a sheet that the format before it accepts is accepted, and means the same line
+pub accepted-before-readings : (s : List ℕ) (l : Line) → readingIn withTenths s ≡ accepted l → reading s ≡ accepted l
+accepted-before-readings = accepted-wider withTenths today readings-within
+
+-- W1: and so is one that document 01's format accepts
 pub accepted-before-tenths : (s : List ℕ) (l : Line) → readingIn document01 s ≡ accepted l → reading s ≡ accepted l
-accepted-before-tenths = accepted-wider document01 today tenths-within
+accepted-before-tenths s l e = accepted-before-readings s l (accepted-wider document01 withTenths tenths-within s l e)

@@ -16,24 +16,30 @@ use lib.Bits.{bitOr}
 use lib.Dec.{ltb, eqb}
 use lib.ListN.{length, getD, set, length-set, length-replicate}
 use lib.Seq.{set-out}
-use Rattle.sizes.specs.Sizes.{mostTones, mostWords, wordTones, wordsOf, longestSheet, mostPower, toneCommand}
+use Rattle.sizes.specs.Sizes.{mostTones, mostWords, wordTones, wordsOf, longestSheet, mostPower, pairCap}
 use Rattle.lists.proofs.Tests.{by-test}
 use Rattle.lists.proofs.Stores.{all-same, after-store}
 use Rattle.bigendian.specs.Number.{number, numberAt}
-use Rattle.bigendian.proofs.Numbers.{number-one, number-lt, number-there}
+use Rattle.bigendian.proofs.Numbers.{number-one, number-lt, number-from}
 use Rattle.silence.specs.Map.{bit, namesBeyond}
 use Rattle.silence.proofs.Maps.{beyond-clear, joined-bit, joined-lt}
+use Rattle.gaps.specs.Gap.{gapUnit, mostGap, mostTenths, PartsInRange, GapInRange}
+use Rattle.gaps.proofs.Rule.{parts-in-range}
+use Rattle.readings.specs.Reading.{isUsable, Usable, isOver}
+use Rattle.readings.proofs.Readings.{usable-float, cost-low, granted}
 use Rattle.line.specs.declared.Numbers.{Numbers}
-use Rattle.gaps.specs.Gap.{gapUnit, mostGap, mostTenths, GapInRange}
-use Rattle.line.specs.Tone.{kindOf, mostCap, InRange}
-use Rattle.line.specs.Line.{undescribed, EntryInRange, Line, LineInRange}
+use Rattle.line.specs.declared.ReadNumbers.{ReadNumbers}
+use Rattle.line.specs.declared.Kind.the-variants.{Read}
+use Rattle.line.specs.Tone.{kindOf, mostCap, kindCost, NumbersInRange, InRange}
+use Rattle.line.specs.Line.{undescribed, EntryInRange, Line, gapOf, LineInRange}
+use Rattle.line.proofs.Costs.{whole-range}
 use Rattle.refusals.specs.declared.Refusal.the-variants.{SheetTooLong}
 use Rattle.rows.specs.declared.Header.{Header}
 use Rattle.rows.specs.declared.Command.the-variants.{Describe, Silence}
-use Rattle.places.specs.Places.{toneAt}
-use Rattle.rows.specs.Rows.{tone, silence}
+use Rattle.places.specs.Places.{numbersAt, levelsAt, ratioAt, kindAt, toneAt}
+use Rattle.rows.specs.Rows.{describing, numbers, levels, ratio, silence}
 use Rattle.command.specs.Format.{today}
-use Rattle.command.proofs.Walk.{Each, passes, in-within}
+use Rattle.command.proofs.Walk.{Each, passes, takes, in-within}
 use Rattle.sheet.specs.Reading.{accepted, refused, bareLine, effect, reading, readingIn}
 use Rattle.sheet.proofs.Walk.{Leads, accepted-by}
 
@@ -80,14 +86,14 @@ bare-sound h z g b = record {
     no-map : (word : ℕ) → getD (bareLine h .maps) word 0 ≡ 0
     no-map word = all-same {A = ℕ} (wordsOf (h .size)) word 0
 
-describes : (s : List ℕ) (at i : ℕ) (l : Line) → Sound l → InRange (toneAt s at) → Sound (effect (Describe i) s at l)
+describes : (s : List ℕ) (at i : ℕ) (l : Line) → Sound l → InRange (gapOf l) (toneAt s at) → Sound (effect (Describe i) s at l)
 describes s at i l z r = record {
   in-range = record {
     size-low = z .in-range .size-low;
     size-high = z .in-range .size-high;
     gap = z .in-range .gap;
     budget-high = z .in-range .budget-high;
-    entries = λ j k. after-any-store (λ j. EntryInRange) (l .entries) i _ undescribed j (λ e. r) (z .in-range .entries j k);
+    entries = λ j k. after-any-store (λ j. EntryInRange (gapOf l)) (l .entries) i _ undescribed j (λ e. r) (z .in-range .entries j k);
   };
   entries-sized = length-set (l .entries) i _ ∙ z .entries-sized;
   maps-sized = z .maps-sized;
@@ -118,11 +124,23 @@ silences s at word map l z small e = record {
 
 -- ---- the rows
 
--- what the operands of a tone keep to is the range of what it carries
-in-range : (isSingle : Bool) (n : Numbers) → 1 ≤ n .noise → n .noise ≤ 65535 → 1 ≤ n .gain → n .gain ≤ 65535 → n .cap ≤ mostCap isSingle → n .mask ≤ mostPower
-    → InRange (record { kind = kindOf isSingle n })
-in-range false n a b c d e f = omega arith
-in-range true n a b c d e f = omega arith
+-- what the operands of a tone keep to is the range of what it carries, at the line's gap
+numbers-in-range : (g : ℕ) (single : Bool) (n : Numbers) → PartsInRange g → NumbersInRange n → n .cap ≤ mostCap single → n .mask ≤ mostPower
+    → InRange g (record { kind = kindOf single n })
+unfolding kindCost
+numbers-in-range g false n G I c m = record { kind = I; bounds = record { cap-high = c; mask-high = m }; cost = whole-range g n I G }
+numbers-in-range g true n G I c m = record { kind = I; bounds = record { cap-high = c; mask-high = m }; cost = whole-range g n I G }
+
+read-in-range : (g : ℕ) (n : ReadNumbers) → Usable (n .reading) → isOver g (n .reading) ≡ false → n .cap ≤ pairCap → n .mask ≤ mostPower
+    → InRange g (record { kind = Read n })
+unfolding kindCost
+read-in-range g n u over c m =
+    let k = granted g (n .reading) over in
+    record {
+      kind = record { usable = u; ratio-finite = k .0 };
+      bounds = record { cap-high = c; mask-high = m };
+      cost = record { low = cost-low g (n .reading); high = k .1 };
+    }
 
 module _ (s : List ℕ) (bytes : Bytes s) where
   -- What holds after so many of the first three commands.
@@ -133,21 +151,54 @@ module _ (s : List ℕ) (bytes : Bytes s) where
   Along at (suc (suc (suc n))) l = Sound l
 
   module _ (at : ℕ) (l : Line) where
-    -- 04 and 05: what the tone's operands keep to is the range of what is read back at its place
-    tone-leads : (n code : ℕ) (isSingle : Bool) → eqb code 5 ≡ isSingle → Sound l → Leads today s Along Sound at (suc (suc (suc n))) l (tone code isSingle)
-    tone-leads n code isSingle kind z is fits p =
+    -- what the operands of a tone's command say is what is read back at its place
+    there : (bytes k w place : ℕ) → at + bytes ≤ length s → w ≤ 8 → k + w ≤ bytes → place ≡ at + k → numberAt s (at + k) w ≡ number s place w
+    there = number-from s at
+
+    byte-there : (k place : ℕ) → place ≡ at + k → number s place 1 ≡ getD s (at + k) 0
+    byte-there k place e = number-one s place ∙ ap (λ (q : ℕ). getD s q 0) e
+
+    -- 04 and 05
+    numbers-lead : (n code : ℕ) (single : Bool) → kindAt code s at ≡ kindOf single (numbersAt s at) → Sound l
+        → Leads today s Along Sound at (suc (suc (suc n))) l (describing code (numbers single))
+    numbers-lead n code single kind z is fits p =
         let noise = in-within (number s (at + 1 + 1) 2) 1 65535 _ _ (p .1 .0) in
         let gain = in-within (number s (at + 1 + 1 + 2) 2) 1 65535 _ _ (p .1 .1 .0) in
-        let cap = in-within (number s (at + 1 + 1 + 2 + 2) 1) 0 (mostCap isSingle) _ _ (p .1 .1 .1 .0) in
+        let cap = in-within (number s (at + 1 + 1 + 2 + 2) 1) 0 (mostCap single) _ _ (p .1 .1 .1 .0) in
         let mask = in-within (number s (at + 1 + 1 + 2 + 2 + 1) 8) 0 mostPower _ _ (p .1 .1 .1 .1 .0) in
-        let noise-is = there 2 2 (at + 1 + 1) (omega arith) (omega arith) (omega arith) in
-        let gain-is = there 4 2 (at + 1 + 1 + 2) (omega arith) (omega arith) (omega arith) in
-        let cap-is : number s (at + 1 + 1 + 2 + 2) 1 ≡ getD s (at + 6) 0 = number-one s (at + 1 + 1 + 2 + 2) ∙ ap (λ (k : ℕ). getD s k 0) (omega arith) in
-        let mask-is = there 7 8 (at + 1 + 1 + 2 + 2 + 1) (omega arith) (omega arith) (omega arith) in
-        describes s at _ l z (rw (is, kind) (in-range isSingle _ (omega arith) (omega arith) (omega arith) (omega arith) (omega arith) (omega arith)))
-      where
-        there : (k w place : ℕ) → w ≤ 8 → k + w ≤ toneCommand → place ≡ at + k → numberAt s (at + k) w ≡ number s place w
-        there k w place small inside e = number-there s (at + k) w small (omega arith) ∙ ap (λ (q : ℕ). number s q w) (sym e)
+        let noise-is = there 15 2 2 (at + 1 + 1) (omega arith) (omega arith) (omega arith) (omega arith) in
+        let gain-is = there 15 4 2 (at + 1 + 1 + 2) (omega arith) (omega arith) (omega arith) (omega arith) in
+        let cap-is = byte-there 6 (at + 1 + 1 + 2 + 2) (omega arith) in
+        let mask-is = there 15 7 8 (at + 1 + 1 + 2 + 2 + 1) (omega arith) (omega arith) (omega arith) (omega arith) in
+        let range : NumbersInRange (numbersAt s at) = record { noise-low = omega arith; noise-high = omega arith; gain-low = omega arith; gain-high = omega arith } in
+        describes s at _ l z
+        (rw (is, kind) (numbers-in-range (gapOf l) single (numbersAt s at) (parts-in-range (l .gap) (z .in-range .gap)) range (omega arith) (omega arith)))
+
+    -- 09 and 0A, whose floats were judged with the gap
+    levels-lead : (n : ℕ) → Sound l → Leads today s Along Sound at (suc (suc (suc n))) l levels
+    levels-lead n z is fits p =
+        let noise = takes (isUsable (number s (at + 1 + 1) 4)) _ _ (p .1 .0) .0 in
+        let gain = takes (isUsable (number s (at + 1 + 1 + 4) 4)) _ _ (p .1 .1 .0) in
+        let cap = in-within (number s (at + 1 + 1 + 4 + 4) 1) 0 pairCap _ _ (p .1 .1 .1 .0) in
+        let mask = in-within (number s (at + 1 + 1 + 4 + 4 + 1) 8) 0 mostPower _ _ (p .1 .1 .1 .1 .0) in
+        let noise-is = there 19 2 4 (at + 1 + 1) (omega arith) (omega arith) (omega arith) (omega arith) in
+        let gain-is = there 19 6 4 (at + 1 + 1 + 4) (omega arith) (omega arith) (omega arith) (omega arith) in
+        let cap-is = byte-there 10 (at + 1 + 1 + 4 + 4) (omega arith) in
+        let mask-is = there 19 11 8 (at + 1 + 1 + 4 + 4 + 1) (omega arith) (omega arith) (omega arith) (omega arith) in
+        let range = read-in-range (gapOf l) (levelsAt s at) (rw (noise-is, gain-is) (usable-float _ noise, usable-float _ (gain .0))) in
+        describes s at _ l z
+        (rw is (range (rw (noise-is, gain-is) (passes _ _ _ (gain .1) .0)) (omega arith) (omega arith)))
+
+    ratio-leads : (n : ℕ) → Sound l → Leads today s Along Sound at (suc (suc (suc n))) l ratio
+    ratio-leads n z is fits p =
+        let float = takes (isUsable (number s (at + 1 + 1) 4)) _ _ (p .1 .0) in
+        let cap = in-within (number s (at + 1 + 1 + 4) 1) 0 pairCap _ _ (p .1 .1 .0) in
+        let mask = in-within (number s (at + 1 + 1 + 4 + 1) 8) 0 mostPower _ _ (p .1 .1 .1 .0) in
+        let float-is = there 15 2 4 (at + 1 + 1) (omega arith) (omega arith) (omega arith) (omega arith) in
+        let cap-is = byte-there 6 (at + 1 + 1 + 4) (omega arith) in
+        let mask-is = there 15 7 8 (at + 1 + 1 + 4 + 1) (omega arith) (omega arith) (omega arith) (omega arith) in
+        describes s at _ l z
+        (rw is (read-in-range (gapOf l) (ratioAt s at) (rw float-is (usable-float _ (float .0))) (rw float-is (passes _ _ _ (float .1) .0)) (omega arith) (omega arith)))
 
     silence-leads : (n : ℕ) → Sound l → Leads today s Along Sound at (suc (suc (suc n))) l (silence mostWords)
     silence-leads n z is fits p =
@@ -164,8 +215,13 @@ module _ (s : List ℕ) (bytes : Bytes s) where
   )
   kept at (suc (suc zero)) l a =
       (λ is fits p. let v = in-within (number s (at + 1) 8) 0 mostPower _ _ (p .0) in bare-sound _ (a .0) (a .1) (v .1), tt)
-  kept at (suc (suc (suc n))) l z =
-      (tone-leads at l n 4 false refl z, (tone-leads at l n 5 true refl z, (silence-leads at l n z, (λ is fits p e. z, tt))))
+  kept at (suc (suc (suc n))) l z = (
+    numbers-lead at l n 4 false refl z,
+    (
+      numbers-lead at l n 5 true refl z,
+      (silence-leads at l n z, (λ is fits p e. z, (levels-lead at l n z, (ratio-leads at l n z, tt)))),
+    ),
+  )
 
   pub accepted-sound : (l : Line) → reading s ≡ accepted l → Sound l
   accepted-sound = accepted-by today s Along Sound kept tt

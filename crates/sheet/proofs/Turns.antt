@@ -165,13 +165,16 @@ module _ {s places maps : List ℕ} {h : Header} {at stage : ℕ} (g : Going s p
       rw (add-one stage)
       (goes-on (bareLine h′) (k .there) (simp f) (sized-bare h′) refl (notes-head s (g .empty (k .early)) h′) (λ l. g .empty (omega arith)) (omega arith) (omega arith))
 
-  pub on-describe : (i : ℕ) → addressed s at < mostTones → d .command ≡ Describe i → Going s (set places i at) maps h (d .next) stage
-  on-describe i small f =
+  -- the tone that is described is the one that the command addresses
+  pub on-describe : (i tone : ℕ) → tone ≡ addressed s at → tone < mostTones → d .command ≡ Describe i → Going s (set places tone at) maps h (d .next) stage
+  on-describe i tone is small f =
       let k = said _ f in
-      goes-on (effect (Describe i) s at (g .line)) (k .there) (simp f)
+      let same : tone ≡ i = is ∙ sym (k .tone) in
+      rw same
+      (goes-on (effect (Describe i) s at (g .line)) (k .there) (simp f)
       (record { entries-sized = length-set (g .line .entries) i _ ∙ g .sized .entries-sized; maps-sized = g .sized .maps-sized }) (g .header-is)
-      (notes-describe s (g .index) at i (omega (arith, k .tone)) (omega (arith, k .of-line, g .sized .entries-sized)) (omega arith) (record { code = k .code; tone = sym (k .tone); inside = k .whole }))
-      (λ l. absurd (omega arith)) (g .low) (omega arith)
+      (notes-describe s (g .index) at i (omega arith) (omega (arith, k .of-line, g .sized .entries-sized)) (omega arith) (record { code = k .code; tone = sym (k .tone); inside = k .whole }))
+      (λ l. absurd (omega arith)) (g .low) (omega arith))
 
   pub on-silence : (word map : ℕ) → map < 2 ^ 32 → d .command ≡ Silence word map → Going s places (joined maps word map) h (d .next) stage
   on-silence word map small f =

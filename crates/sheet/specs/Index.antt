@@ -2,13 +2,13 @@
 -- itself is the store of what the tones carry.
 -- Assumes nothing.
 use mathlib.Core.List.{List}
-use mathlib.Core.Logic.{_⊎_}
 use mathlib.Core.Path.{_≡_}
 use Prim.Native.Nat.{ℕ, _+_, _≤_, _<_}
 use lib.ListN.{length, getD, replicate}
-use Rattle.sizes.specs.Sizes.{mostTones, mostWords, toneCommand}
+use Rattle.sizes.specs.Sizes.{mostTones, mostWords}
 use Rattle.line.specs.Line.{Line, entryOf}
 use Rattle.rows.specs.declared.Header.{Header}
+use Rattle.rows.specs.Codes.{ToneCode, commandBytes}
 use Rattle.places.specs.Places.{entryAt}
 use Rattle.sheet.specs.declared.Read.{Read}
 use Rattle.sheet.specs.declared.Read.the-variants as read
@@ -16,9 +16,9 @@ use Rattle.sheet.specs.Reading.{Meaning, accepted, refused, headerOf, re
 
 -- the command of tone i stands at a place: its byte, its tone, and all of its bytes
 pub record ToneStands (s : List ℕ) (i place : ℕ) : Type 0 where
-  pub code : (getD s place 0 ≡ 0x04) ⊎ (getD s place 0 ≡ 0x05)
+  pub code : ToneCode (getD s place 0)
   pub tone : getD s (place + 1) 0 ≡ i
-  pub inside : place + toneCommand ≤ length s
+  pub inside : place + commandBytes (getD s place 0) ≤ length s
 
 -- The arrays index a line in a sheet. Tone by tone: the entry is the one whose command stands at the tone's place, 0 for none. The maps
 -- are the line's; from its last word on they are 0.

@@ -1,4 +1,5 @@
--- What a sheet means, for all byte lists of any length. Document 01, 'The line sheet' and 'Why a sheet is turned down'; document 02, W1.
+-- What a sheet means, for all byte lists of any length. Document 01, 'The line sheet' and 'Why a sheet is turned down'; document 02,
+-- W1 and W5.
 -- Assumes nothing.
 use mathlib.Core.Bool.{cond}
 use mathlib.Core.List.{List}
@@ -80,7 +81,7 @@ unfoldable pub readFrom : Format → (most : ℕ) → List ℕ → (at stage : �
 readFrom F zero s at stage l = refused (SheetEnds (length s))
 readFrom F (suc most) s at stage l = readOn (afterDecoded (commandIn F l s at stage) s at stage l) (readFrom F most s)
 
--- 'Refusal 1 is judged first, then 2 to 7 as the reading meets them.'
+-- 'Refusal 1 is judged first, then 2 to 7 as the reading meets them'; so are 12 and 13 of W5.
 unfoldable pub readingIn : Format → List ℕ → Meaning
 readingIn F s = cond (isTooLong F s) (refused SheetTooLong) (readFrom F (suc (length s)) s 0 0 emptyLine)
 

@@ -56,7 +56,7 @@ fn read_commands(s: &[u8], places: &mut [u16; TONES], maps: &mut [u32; WORDS]) -
                 header = h;
                 stage += 1;
             }
-            Command::Describe(i) => places[i as usize] = at as u16,
+            Command::Describe(_) => places[tone] = at as u16,
             Command::Silence(word, map) => {
                 maps[word as usize] |= map;
             }

@@ -1,4 +1,4 @@
--- The sizes that document 01 sets, each named once.
+-- The sizes that documents 01 and 02 set, each named once.
 -- Assumes nothing.
 use Prim.Native.Nat.{ℕ, _+_, _*_, _/_, _^_}
 
@@ -32,6 +32,10 @@ singleCap = 7
 abbrev pub mostPower : ℕ
 mostPower = 2 ^ 47
 
+-- a cost is 'from 1 to 16,776,705'
+abbrev pub mostCost : ℕ
+mostCost = 16776705
+
 -- no line's limits add up to more than this: the most tones, each of the largest cap
 abbrev pub mostBitsOfAll : ℕ
 mostBitsOfAll = mostTones * pairCap
@@ -52,6 +56,13 @@ budgetCommand = 9
 
 abbrev pub toneCommand : ℕ
 toneCommand = 15
+
+-- W5: 'Command 09 carries tone, noise float, gain float, cap, mask; 0A carries tone, ratio float, cap, mask'
+abbrev pub levelsCommand : ℕ
+levelsCommand = 19
+
+abbrev pub ratioCommand : ℕ
+ratioCommand = 15
 
 abbrev pub silenceCommand : ℕ
 silenceCommand = 6

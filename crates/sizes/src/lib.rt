@@ -1,4 +1,4 @@
-// The sizes that document 01 sets, each named once. specs/Sizes.antt has the same names for the definitions.
+// The sizes that documents 01 and 02 set, each named once. specs/Sizes.antt has the same names for the definitions.
 
 // The most tones of a line.
 pub const TONES: usize = 256;
@@ -22,6 +22,9 @@ pub const MOST_BITS: u32 = TONES as u32 * PAIR_CAP as u32;
 // The largest budget and the largest mask: 2^47.
 pub const MOST_POWER: u64 = 0x8000_0000_0000;
 
+// The largest cost of a tone.
+pub const MOST_COST: u32 = 16_776_705;
+
 // The bytes of each command in all.
 pub const SIZE_COMMAND: usize = 3;
 
@@ -32,6 +35,10 @@ pub const TENTHS_COMMAND: usize = 2;
 pub const BUDGET_COMMAND: usize = 9;
 
 pub const TONE_COMMAND: usize = 15;
+
+pub const LEVELS_COMMAND: usize = 19;
+
+pub const RATIO_COMMAND: usize = 15;
 
 pub const SILENCE_COMMAND: usize = 6;
 

@@ -1,28 +1,27 @@
 -- What is copied from a sheet, and the maps that are written, are the parts of the tidy form of the line that the sheet's index stands for.
 -- Assumes nothing.
-use mathlib.Core.Bool.{Bool, true, false}
 use mathlib.Core.List.{List, [], _∷_, _++_, append-assoc, append-nil}
-use mathlib.Core.Logic.{_⊎_, inl, inr}
 use mathlib.Core.Path.{_≡_, refl, sym, ap, _∙_}
 use Prim.Native.Nat.{ℕ, zero, suc, _+_, _*_, _/_, _%_, _≤_, _<_}
 use native.Mathlib.Decide.{le-ind}
 use native.Mathlib.Nat.{add-zero, add-assoc}
 use native.Mathlib.Omega.{arith}
-use lib.Dec.{eqb}
 use lib.ListN.{length, getD, length-append, List·getD-eq-default}
-use Rattle.sizes.specs.Sizes.{mostWords, wordsOf, toneCommand}
+use Rattle.sizes.specs.Sizes.{mostWords, wordsOf}
 use Rattle.bigendian.specs.Number.{number, bytes}
-use Rattle.bigendian.proofs.Numbers.{number-one, number-there}
+use Rattle.bigendian.proofs.Numbers.{number-one}
 use Rattle.bigendian.proofs.Stores.{Growing}
-use Rattle.line.specs.declared.Numbers.{Numbers}
-use Rattle.line.specs.Tone.{carriedBy, kindOf, isSingle}
-use Rattle.line.specs.Line.{described, Line}
-use Rattle.rows.specs.Codes.{toneRow}
+use Rattle.line.specs.Tone.{KindInRange}
+use Rattle.line.specs.Line.{described, Line, gapOf, EntryInRange, LineInRange}
+use Rattle.rows.specs.Rows.{Operand, width}
+use Rattle.rows.specs.Codes.{commandBytes}
 use Rattle.places.specs.Places.{toneAt, entryAt}
 use Rattle.sheet.specs.Index.{ToneStands, Indexes}
 use Rattle.sheet.proofs.Sound.{Bytes, Sound}
-use Rattle.tidyform.specs.Tidy.{entryBytes, toneBytes, mapBytes}
-use Rattle.tidyform.proofs.Parts.{row-is-tone, no-word}
+use Rattle.tidyform.specs.Tidy.{operandBytes, kindRow, kindValues, entryBytes, toneBytes, mapBytes}
+use Rattle.tidyform.proofs.Parts.{no-word}
+use Rattle.tidyform.proofs.Written.{Stand}
+use Rattle.tidyform.proofs.Tones.{tone-read}
 use Rattle.tidy.specs.Copies.{part, toneCopy, copies}
 
 -- ---- parts of a sheet
@@ -65,52 +64,32 @@ bytes-number s b at (suc w) =
 
 -- ---- the command of a tone
 
--- the kind that a command's byte tells is written with that byte, and with the same numbers
-code-kind : (code : ℕ) → (code ≡ 4) ⊎ (code ≡ 5) → (n : Numbers) → toneRow (isSingle (kindOf (eqb code 5) n)) .code ≡ code
-code-kind code (inl e) n = rw e
-code-kind code (inr e) n = rw e
-
-carried-kind : (single : Bool) (n : Numbers) → carriedBy (kindOf single n) ≡ n
-carried-kind false n = refl
-carried-kind true n = refl
-
 module _ (s : List ℕ) (b : Bytes s) where
-  byte-part : (at : ℕ) → bytes 1 (getD s at 0) ≡ part s at 1
-  byte-part at = ap (bytes 1) (sym (number-one s at)) ∙ bytes-number s b at 1
+  -- operands that stand there are written with the bytes that they were read from
+  operands-back : (at : ℕ) (os : List Operand) (vs : List ℕ) → Stand s at os vs → operandBytes os vs ≡ part s at (width os)
+  unfolding part
+  operands-back at [] vs st = refl
+  operands-back at (o ∷ os) [] st = absurd st
+  operands-back at (o ∷ os) (v ∷ vs) st =
+      rw (sym (st .0), bytes-number s b at (o .width), operands-back (at + o .width) os vs (st .1)) (parts s at (o .width) (at + o .width) (width os) (width (o ∷ os)) refl refl)
 
-  tone-copy : (i at : ℕ) → ToneStands s i at → entryBytes i (described (toneAt s at)) ≡ part s at toneCommand
-  tone-copy i at h =
-      rw (
-        row-is-tone (isSingle (toneAt s at .kind)),
-        code-kind (getD s at 0) (h .code) _,
-        carried-kind (eqb (getD s at 0) 5) _,
-        sym (h .tone),
-        number-there s (at + 2) 2 (omega arith) (omega (arith, h .inside)),
-        number-there s (at + 4) 2 (omega arith) (omega (arith, h .inside)),
-        number-there s (at + 7) 8 (omega arith) (omega (arith, h .inside)),
-        byte-part (at + 1),
-        bytes-number s b (at + 2) 2,
-        bytes-number s b (at + 4) 2,
-        byte-part (at + 6),
-        bytes-number s b (at + 7) 8,
-        append-nil (part s (at + 7) 8),
-        parts s (at + 6) 1 (at + 7) 8 9 (omega arith) refl,
-        parts s (at + 4) 2 (at + 6) 9 11 (omega arith) refl,
-        parts s (at + 2) 2 (at + 4) 11 13 (omega arith) refl,
-        parts s (at + 1) 1 (at + 2) 13 14 (omega arith) refl,
-        sym (parts s at 1 (at + 1) 14 15 refl refl),
-        part-one s at,
-      )
+  tone-copy : (i at : ℕ) → ToneStands s i at → KindInRange (toneAt s at .kind) → entryBytes i (described (toneAt s at)) ≡ part s at (commandBytes (getD s at 0))
+  tone-copy i at h I =
+      let c = tone-read s at i b h I in
+      let k = toneAt s at .kind in
+      rw (c .bytes, sym (c .code), operands-back (at + 1) (kindRow k .operands) (i ∷ kindValues k) (c .operands))
+      (rw (part-one s at) at (parts s at 1 (at + 1) (width (kindRow k .operands)) (1 + width (kindRow k .operands)) refl refl))
 
   -- the tones' commands are those of the line that is indexed
-  pub copies-are : {places maps : List ℕ} {l : Line} → Indexes s places maps l → (n : ℕ) → toneBytes n (l .entries) ≡ copies n s places
+  pub copies-are : {places maps : List ℕ} {l : Line} → Indexes s places maps l → LineInRange l → (n : ℕ) → n ≤ l .size → toneBytes n (l .entries) ≡ copies n s places
   unfolding toneBytes copies
-  copies-are x zero = refl
-  copies-are {places} x (suc n) = rw (copies-are x n, x .entry n, entry-copy (getD places n 0) (x .stands n))
+  copies-are x I zero h = refl
+  copies-are {places} {l = l} x I (suc n) h =
+      rw (copies-are x I n (omega arith), x .entry n, entry-copy (getD places n 0) (x .stands n) (rw (x .entry n) at (I .entries n h)))
     where
-      entry-copy : (place : ℕ) → (0 < place → ToneStands s n place) → entryBytes n (entryAt s place) ≡ toneCopy s place
-      entry-copy zero h = refl
-      entry-copy (suc p) h = tone-copy n (suc p) (h (omega arith))
+      entry-copy : (place : ℕ) → (0 < place → ToneStands s n place) → EntryInRange (gapOf l) (entryAt s place) → entryBytes n (entryAt s place) ≡ toneCopy s place
+      entry-copy zero h R = refl
+      entry-copy (suc p) h R = tone-copy n (suc p) (h (omega arith)) (R .kind)
 
 -- ---- the maps
 

@@ -12,7 +12,7 @@ use Rattle.rows.specs.declared.Header.{Header}
 use Rattle.sheet.specs.Reading.{accepted, headerOf, reading}
 use Rattle.sheet.specs.Index.{Indexed}
 use Rattle.sheet.proofs.Sound.{Bytes}
-use Rattle.sheet.proofs.Uses.{size-is, line-sound}
+use Rattle.sheet.proofs.Uses.{size-is, line-sound, line-in-range}
 use Rattle.tidyform.specs.Tidy.{toneBytes, mapBytes, headBytes, tidy}
 use Rattle.tidyform.proofs.Length.{length-tidy}
 use Rattle.tidy.specs.Copies.{Inside, copies}
@@ -25,7 +25,7 @@ module _ {s places maps : List ℕ} {h : Header} (x : Indexed s h places maps) w
 
   module _ (b : Bytes s) where
     tones-are : toneBytes (x .line .size) (x .line .entries) ≡ copies (h .size) s places
-    tones-are = copies-are s b (x .indexes) (x .line .size) ∙ ap (λ (n : ℕ). copies n s places) (size-is x)
+    tones-are = copies-are s b (x .indexes) (line-in-range x b) (x .line .size) (omega arith) ∙ ap (λ (n : ℕ). copies n s places) (size-is x)
 
     words-are : mapBytes (wordsOf (x .line .size)) (x .line .maps) ≡ mapBytes mostWords maps
     words-are = maps-are (x .line) (line-sound x b) (x .indexes)

@@ -1,13 +1,13 @@
 -- Runs of stores, one after the other: what the tidy form leaves in a lent buffer.
 -- Assumes nothing.
-use mathlib.Core.Path.{_≡_, refl, ap, _∙_}
+use mathlib.Core.Path.{_≡_, refl, sym, ap, _∙_}
 use mathlib.Core.List.{List, [], _∷_, _++_, append-assoc}
-use Prim.Native.Nat.{ℕ, zero, suc, _+_, _<_}
+use Prim.Native.Nat.{ℕ, zero, suc, _+_, _≤_, _<_}
 use native.Mathlib.Numerals.{add-one}
 use native.Mathlib.Omega.{arith}
 use lib.ListN.{length, getD, set}
 use lib.Seq.{sets}
-use Rattle.sizes.specs.Sizes.{wordsOf, sizeCommand, toneCommand, silenceCommand}
+use Rattle.sizes.specs.Sizes.{wordsOf, sizeCommand, silenceCommand}
 use Rattle.bigendian.specs.Number.{bytes}
 use Rattle.bigendian.proofs.Numbers.{length-bytes, bytes-one}
 use Rattle.bigendian.proofs.Stores.{Growing, sets-append}
@@ -15,10 +15,10 @@ use Rattle.gaps.specs.declared.Gap.the-variants.{Parts, Tenths}
 use Rattle.line.specs.Line.{Line}
 use Rattle.rows.specs.declared.Header.{Header}
 use Rattle.rows.specs.Rows.{budget, end}
-use Rattle.rows.specs.Codes.{sizeRow, silenceRow}
+use Rattle.rows.specs.Codes.{commandBytes, sizeRow, silenceRow}
 use Rattle.sheet.specs.Reading.{headerOf}
 use Rattle.tidyform.specs.Tidy.{written, toneBytes, mapBytes, gapBytes, headBytes, tidy}
-use Rattle.tidy.specs.Copies.{part, toneCopy, copies}
+use Rattle.tidy.specs.Copies.{part, Inside, toneCopy, copies}
 use Rattle.tidy.proofs.Copies.{length-part}
 
 -- The copied tones.
@@ -27,18 +27,23 @@ pub copies-grow : (s places : List ℕ) → Growing (λ n. copies n s places) (�
 unfolding copies
 copies-grow s places = record { none = refl; next = λ n. refl }
 
-pub copy-there : (s : List ℕ) (place : ℕ) → 0 < place → toneCopy s place ≡ part s place toneCommand
-copy-there s zero h = absurd (omega arith)
-copy-there s (suc p) h = refl
-
-pub length-copy : (s : List ℕ) (place : ℕ) → 0 < place → length (toneCopy s place) ≡ toneCommand
-length-copy s place h = ap length (copy-there s place h) ∙ length-part s place toneCommand
-
-pub no-copy : (s : List ℕ) {place : ℕ} → place ≡ 0 → toneCopy s place ≡ []
-no-copy s e = rw e
+pub length-copy : (s : List ℕ) (place : ℕ) → 0 < place → length (toneCopy s place) ≡ commandBytes (getD s place 0)
+length-copy s zero h = absurd (omega arith)
+length-copy s (suc p) h = length-part s (suc p) (commandBytes (getD s (suc p) 0))
 
 pub length-no-copy : (s : List ℕ) {place : ℕ} → place ≡ 0 → length (toneCopy s place) ≡ 0
-length-no-copy s e = ap length (no-copy s e)
+length-no-copy s e = rw e
+
+-- what is copied is a part of the sheet, that of no tone too
+pub copy-is : (s : List ℕ) (place : ℕ) → toneCopy s place ≡ part s place (length (toneCopy s place))
+unfolding part
+copy-is s zero = refl
+copy-is s (suc p) = ap (part s (suc p)) (sym (length-part s (suc p) (commandBytes (getD s (suc p) 0))))
+
+-- and is inside it
+pub copy-inside : (s : List ℕ) (place : ℕ) → Inside s place → place + length (toneCopy s place) ≤ length s
+copy-inside s zero I = omega arith
+copy-inside s (suc p) I = omega (arith, I .whole (omega arith), length-copy s (suc p) (omega arith))
 
 -- The commands that are written number by number, as the stores that write them.
 

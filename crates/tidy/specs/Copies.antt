@@ -3,7 +3,7 @@
 use mathlib.Core.List.{List, [], _∷_, _++_}
 use Prim.Native.Nat.{ℕ, zero, suc, _+_, _≤_, _<_}
 use lib.ListN.{length, getD}
-use Rattle.sizes.specs.Sizes.{toneCommand}
+use Rattle.rows.specs.Codes.{commandBytes}
 
 -- the bytes of a sheet from a place on
 unfoldable pub part : List ℕ → (at width : ℕ) → List ℕ
@@ -12,12 +12,12 @@ part s at (suc w) = part s at w ++ (getD s (at + w) 0 ∷ [])
 
 -- a tone's command that stands at a place is all there; none stands at 0
 pub record Inside (s : List ℕ) (place : ℕ) : Type 0 where
-  pub whole : 0 < place → place + toneCommand ≤ length s
+  pub whole : 0 < place → place + commandBytes (getD s place 0) ≤ length s
 
 -- the command of a tone, copied from its place; none where it has no place
 abbrev pub toneCopy : List ℕ → (place : ℕ) → List ℕ
 toneCopy s zero = []
-toneCopy s (suc p) = part s (suc p) toneCommand
+toneCopy s (suc p) = part s (suc p) (commandBytes (getD s (suc p) 0))
 
 unfoldable pub copies : (count : ℕ) → (s places : List ℕ) → List ℕ
 copies zero s places = []

@@ -1,17 +1,16 @@
-// Tidying a sheet: document 01, 'The line sheet', and document 02, W1.
+// Tidying a sheet: document 01, 'The line sheet', and document 02, W1 and W5.
 mod writer;
 
-ghost use mathlib.Core.List.{List};
 ghost use mathlib.Core.Path.{_≡_};
 ghost use Prim.Native.Nat.{ℕ, _*_, _≤_};
-ghost use lib.ListN.{length};
-ghost use Rattle.sizes.specs.Sizes.{mostTones, mostWords, gapCommand, toneCommand, silenceCommand};
+ghost use lib.ListN.{length, getD};
+ghost use Rattle.sizes.specs.Sizes.{mostTones, mostWords, gapCommand, levelsCommand, silenceCommand};
 ghost use Rattle.lists.specs.Lent.{before, after};
 ghost use Rattle.refusals.specs.Writing.{afterWriting};
 ghost use Rattle.sheet.specs.Reading.{reading};
 ghost use Rattle.tidyform.specs.Tidy.{mapBytes, gapBytes};
 ghost use Rattle.tidy.specs.Tidying.{tidying, tidyAnswer, tidyNumbers, tidyOutcome};
-ghost use Rattle.tidy.specs.Copies.{copies};
+ghost use Rattle.tidy.specs.Copies.{Inside, toneCopy, copies};
 use gaps::Gap;
 use refusals::Refusal;
 use sheet::Read;
@@ -21,7 +20,6 @@ use sizes::GAP_COMMAND;
 use sizes::SILENCE_COMMAND;
 use sizes::SIZE_COMMAND;
 use sizes::TENTHS_COMMAND;
-use sizes::TONE_COMMAND;
 use sizes::TONES;
 use sizes::WORDS;
 
@@ -38,17 +36,27 @@ fn gap_bytes(gap: Gap) -> usize
     }
 }
 
-// How many bytes the described tones take, in any sheet.
-fn tones_bytes(size: u16, places: &[u16; TONES]) -> usize
+// How many bytes the command of the tone that stands at a place of the sheet takes, if one does.
+pub(crate) fn tone_bytes(s: &[u8], place: u16) -> usize
+    requires { ⌜ Inside (now s) place ⌝ }
+    ensures { λ r. ⌜ (r ≡ length (toneCopy (before s) place)) × (r ≤ levelsCommand) ⌝ }
+{
+    if place < 1 {
+        return 0;
+    }
+    rows::bytes_of(s[place as usize])
+}
+
+// How many bytes the described tones take.
+fn tones_bytes(s: &[u8], size: u16, places: &[u16; TONES]) -> usize
     requires { ⌜ size ≤ mostTones ⌝ }
-    ensures { λ r. ⌜ ((s : List ℕ) → r ≡ length (copies size s (before places))) × (r ≤ toneCommand * mostTones) ⌝ }
+    requires { ⌜ ((i : ℕ) → Inside (now s) (getD (now places) i 0)) ⌝ }
+    ensures { λ r. ⌜ (r ≡ length (copies size (before s) (before places))) × (r ≤ levelsCommand * mostTones) ⌝ }
 {
     let mut bytes: usize = 0;
     let mut i: u16 = 0;
     while i < size {
-        if 0 < places[i as usize] {
-            bytes += TONE_COMMAND;
-        }
+        bytes += tone_bytes(s, places[i as usize]);
         i += 1;
     }
     bytes
@@ -90,7 +98,7 @@ pub fn tidy(s: &[u8], out: &mut [u8]) -> Tidied
             let gap = header.gap;
             let bytes = OTHER_BYTES
                 + gap_bytes(gap)
-                + tones_bytes(header.size, &places)
+                + tones_bytes(s, header.size, &places)
                 + words_bytes(&maps);
             if out.len() < bytes {
                 return Tidied::Refused(Refusal::DestinationTooSmall);

@@ -1,4 +1,4 @@
-// The tidy form of a line, written into a lent buffer: document 01, 'The line sheet', and document 02, W1.
+// The tidy form of a line, written into a lent buffer: document 01, 'The line sheet', and document 02, W1 and W5.
 ghost use mathlib.Core.Path.{_≡_};
 ghost use Prim.Native.Nat.{ℕ, _+_, _≤_};
 ghost use lib.ListN.{length, getD};
@@ -17,7 +17,6 @@ use sizes::GAP_COMMAND;
 use sizes::SILENCE_COMMAND;
 use sizes::SIZE_COMMAND;
 use sizes::TENTHS_COMMAND;
-use sizes::TONE_COMMAND;
 use sizes::TONES;
 use sizes::WORDS;
 
@@ -41,11 +40,9 @@ fn put_tone(s: &[u8], place: u16, out: &mut [u8], at: usize) -> usize
     ensures place { λ r. ⌜ r ≡ at + length (toneCopy (before s) place) ⌝ }
     ensures bytes { λ r. ⌜ after out ≡ sets (before out) at (toneCopy (before s) place) ⌝ }
 {
-    if place < 1 {
-        return at;
-    }
-    copy(s, place as usize, TONE_COMMAND, out, at);
-    at + TONE_COMMAND
+    let bytes = crate::tone_bytes(s, place);
+    copy(s, place as usize, bytes, out, at);
+    at + bytes
 }
 
 // The described tones in rising number, from a place on. Answers the place after them.

@@ -2,14 +2,13 @@
 -- Assumes nothing.
 use mathlib.Core.List.{List}
 use mathlib.Core.Path.{_≡_, ap}
-use Prim.Native.Nat.{ℕ, zero, suc, _+_, _*_, _≤_}
-use native.Mathlib.Decide.{ℕ-discrete}
-use native.Mathlib.Nat.{mul-suc}
+use Prim.Native.Nat.{ℕ, zero, suc, _+_, _≤_, _<_}
+use native.Mathlib.Decide.{decLe, ℕ-discrete}
 use native.Mathlib.Omega.{arith}
 use lib.Bits.{bitOr}
 use lib.ListN.{length, getD, set, length-append}
-use lib.Seq.{getD-set-other}
-use Rattle.sizes.specs.Sizes.{mostTones, longestSheet, wordsOf, sizeCommand, gapCommand, tenthsCommand, budgetCommand, toneCommand, silenceCommand, endCommand}
+use lib.Seq.{getD-set-same, getD-set-other, set-out}
+use Rattle.sizes.specs.Sizes.{wordsOf, sizeCommand, gapCommand, tenthsCommand, budgetCommand, silenceCommand, endCommand}
 use Rattle.lists.proofs.Stores.{all-same}
 use Rattle.bigendian.proofs.Numbers.{length-bytes}
 use Rattle.bigendian.proofs.Stores.{length-none, length-next}
@@ -21,7 +20,7 @@ use Rattle.rows.specs.declared.Command.the-variants.{Describe, Silence}
 use Rattle.places.specs.Places.{toneAt}
 use Rattle.sheet.specs.Reading.{headerOf, bareLine, effect}
 use Rattle.tidyform.specs.Tidy.{entryBytes, toneBytes, wordBytes, mapBytes, gapBytes, headBytes, tidy}
-use Rattle.tidyform.proofs.Parts.{length-entry-le, length-word-le, tones-grow, words-grow}
+use Rattle.tidyform.proofs.Parts.{length-word-le, tones-grow, words-grow}
 
 -- ---- what the first entries of a list add up to, where each counts by its number and value
 
@@ -37,10 +36,6 @@ module _ {A : Type 0} (S : Adding A) where
   all-zero zero l h = S .none l
   all-zero (suc n) l h = omega (arith, S .more n l, all-zero n l h, h n)
 
-  all-le : (most : ℕ) → ((i : ℕ) (v : A) → S .one i v ≤ most) → (n : ℕ) (l : List A) → S .all n l ≤ most * n
-  all-le most h zero l = omega (arith, S .none l)
-  all-le most h (suc n) l = omega (arith, S .more n l, all-le most h n l, h n (getD l n (S .absent)), mul-suc most n)
-
   -- an entry that comes later does not matter
   set-after : (n : ℕ) (l : List A) (i : ℕ) (v : A) → n ≤ i → S .all n (set l i v) ≡ S .all n l
   set-after zero l i v h = omega (arith, S .none l, S .none (set l i v))
@@ -53,16 +48,23 @@ module _ {A : Type 0} (S : Adding A) where
         ap (S .one n) (getD-set-other l i n v (S .absent) (λ e. omega arith)),
       )
 
-  -- one entry that changes adds at most as much as an entry can count
-  set-adds : (most : ℕ) → ((i : ℕ) (v : A) → S .one i v ≤ most) → (n : ℕ) (l : List A) (i : ℕ) (v : A) → S .all n (set l i v) ≤ S .all n l + most
-  set-adds most h zero l i v = omega (arith, S .none (set l i v))
-  set-adds most h (suc n) l i v = by-dec (ℕ-discrete n i) (set-adds most h n l i v)
+  -- one entry that changes adds at most what it counts; past the end nothing changes
+  set-adds : (n : ℕ) (l : List A) (i : ℕ) (v : A) → S .all n (set l i v) ≤ S .all n l + S .one i v
+  set-adds n l i v = by (decLe (length l) i)
     where
-      by-dec : Dec (n ≡ i) → S .all n (set l i v) ≤ S .all n l + most → S .all (suc n) (set l i v) ≤ S .all (suc n) l + most
-      by-dec (yes e) ih =
-          omega (arith, S .more n l, S .more n (set l i v), set-after n l i v (omega arith), h n (getD (set l i v) n (S .absent)))
-      by-dec (no m) ih =
-          omega (arith, S .more n l, S .more n (set l i v), ap (S .one n) (getD-set-other l i n v (S .absent) m))
+      inside : i < length l → (n : ℕ) → S .all n (set l i v) ≤ S .all n l + S .one i v
+      inside h zero = omega (arith, S .none (set l i v))
+      inside h (suc n) = by-dec (ℕ-discrete n i) (inside h n)
+        where
+          by-dec : Dec (n ≡ i) → S .all n (set l i v) ≤ S .all n l + S .one i v → S .all (suc n) (set l i v) ≤ S .all (suc n) l + S .one i v
+          by-dec (yes e) ih =
+              let here : S .one n (getD (set l i v) n (S .absent)) ≡ S .one i v = rw e (ap (S .one i) (getD-set-same l i v (S .absent) h)) in
+              omega (arith, S .more n l, S .more n (set l i v), set-after n l i v (omega arith))
+          by-dec (no m) ih = omega (arith, S .more n l, S .more n (set l i v), ap (S .one n) (getD-set-other l i n v (S .absent) m))
+
+      by : Dec (length l ≤ i) → S .all n (set l i v) ≤ S .all n l + S .one i v
+      by (yes h) = rw (set-out l i v h) (omega arith)
+      by (no h) = inside (omega arith) n
 
 -- ---- the tones
 
@@ -116,12 +118,6 @@ pub length-tidy : (l : Line) → length (tidy l) ≡ length (headBytes (headerOf
 unfolding tidy
 length-tidy l = simp length-append (omega arith)
 
--- at most 16 bytes, with 15 for each of 256 tones and 6 for each of 8 words
-pub tidy-short : (l : Line) → l .size ≤ mostTones → length (tidy l) ≤ longestSheet
-tidy-short l h =
-    let words = wordsOf (l .size) in
-    omega (arith, length-tidy l, length-head (headerOf l), length-gap-le (l .gap), all-le tones toneCommand length-entry-le (l .size) (l .entries), all-le maps silenceCommand length-word-le words (l .maps))
-
 -- nothing described and nothing silenced
 pub tidy-bare : (h : Header) → length (tidy (bareLine h)) ≡ length (headBytes h) + endCommand
 tidy-bare h =
@@ -134,20 +130,22 @@ tidy-bare h =
     )
 
 module _ (l : Line) (s : List ℕ) (at : ℕ) where
-  pub tidy-describe : (i : ℕ) → length (tidy (effect (Describe i) s at l)) ≤ length (tidy l) + toneCommand
+  pub tidy-describe : (i : ℕ) → length (tidy (effect (Describe i) s at l)) ≤ length (tidy l) + length (entryBytes i (described (toneAt s at)))
   tidy-describe i =
       omega (
         arith,
         length-tidy l,
         length-tidy (effect (Describe i) s at l),
-        set-adds tones toneCommand length-entry-le (l .size) (l .entries) i (described (toneAt s at)),
+        set-adds tones (l .size) (l .entries) i (described (toneAt s at)),
       )
 
   pub tidy-silence : (word map : ℕ) → length (tidy (effect (Silence word map) s at l)) ≤ length (tidy l) + silenceCommand
   tidy-silence word map =
+      let both = bitOr (getD (l .maps) word 0) map in
       omega (
         arith,
         length-tidy l,
         length-tidy (effect (Silence word map) s at l),
-        set-adds maps silenceCommand length-word-le (wordsOf (l .size)) (l .maps) word (bitOr (getD (l .maps) word 0) map),
+        set-adds maps (wordsOf (l .size)) (l .maps) word both,
+        length-word-le word both,
       )

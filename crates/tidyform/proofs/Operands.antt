@@ -1,31 +1,34 @@
--- Operands in range, and the command of a tone: it is allowed, describes the tone, and carries it wherever it stands in a sheet.
+-- Operands in range, and the command of a tone: it is allowed, describes the tone, and meets no refusal where the tone is in range.
 -- Assumes nothing.
-use mathlib.Core.Path.{_≡_, refl, ap, _∙_}
-use mathlib.Core.Bool.{Bool, true, false}
-use mathlib.Core.List.{List, [], _∷_, _++_, append-assoc}
+use mathlib.Core.Path.{_≡_, refl, sym, ap, _∙_}
+use mathlib.Core.Bool.{Bool, false, true}
+use mathlib.Core.List.{List, [], _∷_, _++_}
 use mathlib.Core.Option.{some}
-use Prim.Native.Nat.{ℕ, _+_, _^_, _≤_, _<_}
+use Prim.Native.Nat.{ℕ, _^_, _≤_, _<_}
 use native.Mathlib.Omega.{arith}
 use borrow.Author.Tests.{le-ltb, lt-leb}
-use lib.Dec.{eqb}
-use lib.ListN.{length, getD, drop, length-append}
-use Rattle.sizes.specs.Sizes.{mostPower, toneCommand}
-use Rattle.bigendian.specs.Number.{bytes, numberAt}
-use Rattle.bigendian.proofs.Numbers.{number-there, length-bytes, bytes-one}
+use lib.Ieee.{Float, binary32, toBits}
+use lib.ListN.{getD}
+use Rattle.sizes.specs.Sizes.{pairCap, mostPower, mostCost}
 use Rattle.silence.specs.Map.{namesBeyond}
+use Rattle.gaps.specs.Gap.{parts}
+use Rattle.readings.specs.declared.Reading.{Reading}
+use Rattle.readings.specs.declared.Reading.the-variants.{Both, Ratio}
+use Rattle.readings.specs.Reading.{isUsable, FloatInRange, readingCost, isOver, ReadingInRange}
+use Rattle.readings.proofs.Readings.{back-usable, back-fits, float-back, not-over}
 use Rattle.line.specs.declared.Numbers.{Numbers}
 use Rattle.line.specs.declared.Kind.{Kind}
-use Rattle.line.specs.declared.Kind.the-variants.{Pair, Single}
-use Rattle.line.specs.declared.Tone.{Tone}
-use Rattle.line.specs.Tone.{carriedBy, carried, kindOf, isSingle, mostCap, InRange}
-use Rattle.line.specs.Line.{described, isDescribed}
-use Rattle.rows.specs.Rows.{Seen, Operand, within, toneNumber, map, withCode, tone}
-use Rattle.rows.specs.Codes.{toneRow}
-use Rattle.places.specs.Places.{toneAt}
+use Rattle.line.specs.declared.Kind.the-variants.{Pair, Single, Read}
+use Rattle.line.specs.Tone.{mostCap, kindCost, Cost, NumbersInRange, InRange}
+use Rattle.line.specs.Line.{Entry, isDescribed}
+use Rattle.rows.specs.declared.Header.{Header}
+use Rattle.rows.specs.declared.Command.the-variants.{Describe}
+use Rattle.rows.specs.Rows.{Seen, Operand, Row, within, toneNumber, float, lastFloat, map, levelsOf, ratioOf, capAndMask, numbers, withCode}
 use Rattle.command.specs.Format.{today}
-use Rattle.tidyform.specs.Tidy.{numbersOf, entryBytes}
-use Rattle.tidyform.proofs.Parts.{row-is-tone, length-described}
-use Rattle.tidyform.proofs.Written.{byte-stands, number-stands, stands-after, stands-length, after, Good, nothing, value}
+use Rattle.command.proofs.Walk.{seenAt}
+use Rattle.tidyform.specs.Tidy.{readingRow, readingBits, kindRow, kindValues}
+use Rattle.tidyform.proofs.Parts.{row-is-tone}
+use Rattle.tidyform.proofs.Written.{after, Good, nothing, value}
 
 -- Operands in range.
 
@@ -43,73 +46,61 @@ newTone {seen} i f a b = value {seen = seen} {o = toneNumber 1} f (λ place. rw 
 pub newMap : {seen : Seen} (v : ℕ) → v < 2 ^ 32 → namesBeyond (seen .header .size) (getD (seen .before) 0 0) v ≡ false → Good seen (map ∷ []) (v ∷ [])
 newMap {seen} v f a = value {seen = seen} {o = map} f (λ place. rw a) nothing
 
-cap-small : (single : Bool) → mostCap single < 256
-cap-small false = omega arith
-cap-small true = omega arith
+-- a float in range, by its bits
+usable : {seen : Seen} {os : List Operand} {vs : List ℕ} (x : Float) → FloatInRange x → Good (after seen (toBits binary32 x)) os vs
+    → Good seen (float ∷ os) (toBits binary32 x ∷ vs)
+usable {seen} x R = value {seen = seen} {o = float} {v = toBits binary32 x} (omega (arith, back-fits x R)) (λ place. rw (back-usable x R))
 
-pub good-tone : {seen : Seen} (i : ℕ) (t : Tone) → i < 256 → i < seen .header .size → isDescribed (seen .known) ≡ false → InRange t
-    → Good seen (toneRow (isSingle (t .kind)) .operands) (numbersOf i (carried t))
-good-tone i t f a b I =
-    let x : Numbers = carried t in
-    let most : ℕ = mostCap (isSingle (t .kind)) in
-    rw (row-is-tone (isSingle (t .kind)))
-    (newTone i f a b
-    (ranged 2 1 65535 (x .noise) (omega arith) (I .noise-low) (I .noise-high)
-    (ranged 2 1 65535 (x .gain) (omega arith) (I .gain-low) (I .gain-high)
-    (ranged 1 0 most (x .cap) (omega (arith, cap-small (isSingle (t .kind)))) (omega arith) (I .cap-high)
-    (ranged 8 0 mostPower (x .mask) (omega arith) (omega arith) (I .mask-high) nothing)))))
+-- the last float of a command, whose reading is not over
+lastUsable : {seen : Seen} {os : List Operand} {vs : List ℕ} (back : ℕ) (reading : List ℕ → Reading) (x : Float) → FloatInRange x
+    → isOver (parts (seen .header .gap)) (reading (seen .before ++ (toBits binary32 x ∷ []))) ≡ false → Good (after seen (toBits binary32 x)) os vs
+    → Good seen (lastFloat back reading ∷ os) (toBits binary32 x ∷ vs)
+lastUsable {seen} back reading x R over =
+    value {seen = seen} {o = lastFloat back reading} {v = toBits binary32 x} (omega (arith, back-fits x R)) (λ place. rw (back-usable x R, over))
+
+-- a cap and a mask in range
+bounds : {seen : Seen} (most c m : ℕ) → most < 256 → c ≤ most → m ≤ mostPower → Good seen (capAndMask most) (c ∷ m ∷ [])
+bounds most c m small c-high m-high = ranged 1 0 most c (omega arith) (omega arith) c-high (ranged 8 0 mostPower m (omega arith) (omega arith) m-high nothing)
 
 -- A tone's command.
 
--- a kind is told by its command's byte and what it carries
-code-told : (single : Bool) → eqb (toneRow single .code) 0x05 ≡ single
-code-told false = refl
-code-told true = refl
-
-kind-told : (k : Kind) → kindOf (isSingle k) (carriedBy k) ≡ k
-kind-told (Pair n) = refl
-kind-told (Single n) = refl
-
 -- it is allowed after the first three commands, and describes the tone
-pub tone-found : (single : Bool) → withCode (today .rows 3) (toneRow single .code) ≡ some (toneRow single)
-tone-found false = refl
-tone-found true = refl
-
-pub tone-does : (single : Bool) → toneRow single .does ≡ tone (toneRow single .code) single .does
-tone-does single = ap (λ r. r .does) (row-is-tone single)
-
--- where it stands in a sheet, the sheet has the tone
-pub tone-stands : (s q : List ℕ) (at i : ℕ) (t : Tone) → InRange t → at ≤ length s → drop at s ≡ entryBytes i (described t) ++ q → toneAt s at ≡ t
-tone-stands s q at i t I h e =
-    let noise = past 1 1 i 2 _ refl numbers in
-    let gain = past 2 2 (x .noise) 4 _ refl noise in
-    let cap = past 4 2 (x .gain) 6 _ refl gain in
-    let mask = past 6 1 (x .cap) 7 _ refl cap in
-    rw (
-      byte-stands s _ at _ e,
-      code-told single,
-      reads 2 2 (x .noise) _ (omega arith) (omega arith) (omega arith) noise,
-      reads 4 2 (x .gain) _ (omega arith) (omega arith) (omega arith) gain,
-      byte-stands s _ (at + 6) (x .cap) (rw (bytes-one (x .cap) (omega (arith, cap-small single))) at cap),
-      reads 7 8 (x .mask) _ (omega arith) (omega arith) (omega arith) mask,
-      kind-told (t .kind),
-    )
+pub tone-found : (k : Kind) → withCode (today .rows 3) (kindRow k .code) ≡ some (kindRow k)
+tone-found (Pair n) = refl
+tone-found (Single n) = refl
+tone-found (Read n) = by (n .reading)
   where
-    single : Bool
-    single = isSingle (t .kind)
+    by : (r : Reading) → withCode (today .rows 3) (readingRow r .code) ≡ some (readingRow r)
+    by (Both l) = refl
+    by (Ratio x) = refl
 
-    x : Numbers
-    x = carried t
+pub tone-does : (k : Kind) (h : Header) (vs : List ℕ) → kindRow k .does h vs ≡ Describe (getD vs 0 0)
+tone-does k h vs = ap (λ (r : Row). r .does h vs) (row-is-tone k)
 
-    reads : (k w v : ℕ) (r : List ℕ) → w ≤ 8 → k + w ≤ toneCommand → v < 256 ^ w → drop (at + k) s ≡ bytes w v ++ r → numberAt s (at + k) w ≡ v
-    reads k w v r a b f d =
-        number-there s (at + k) w a (omega (arith, stands-length s _ at h e, length-append (entryBytes i (described t)) q, length-described i t))
-        ∙ number-stands s r (at + k) w v f d
+-- it meets no refusal
+module _ (h : Header) (known : Entry) (i : ℕ) (small : i < 256) (of-line : i < h .size) (new : isDescribed known ≡ false) where
+  good-numbers : (isSingle : Bool) (n : Numbers) → NumbersInRange n → mostCap isSingle < 256 → n .cap ≤ mostCap isSingle → n .mask ≤ mostPower
+      → Good (seenAt h known) (toneNumber 1 ∷ numbers isSingle) (i ∷ n .noise ∷ n .gain ∷ n .cap ∷ n .mask ∷ [])
+  good-numbers isSingle n I s c m =
+      newTone i small of-line new
+      (ranged 2 1 65535 (n .noise) (omega (arith, I .noise-high)) (I .noise-low) (I .noise-high)
+      (ranged 2 1 65535 (n .gain) (omega (arith, I .gain-high)) (I .gain-low) (I .gain-high)
+      (bounds (mostCap isSingle) (n .cap) (n .mask) s c m)))
 
-    past : (k w v m : ℕ) (r : List ℕ) → k + w ≡ m → drop (at + k) s ≡ bytes w v ++ r → drop (at + m) s ≡ r
-    past k w v m r f d =
-        let z : at + m ≡ at + k + w = omega arith in
-        rw z (stands-after s (bytes w v) r (at + k) w (length-bytes w v) d)
+  good-reading : (r : Reading) (c m : ℕ) → ReadingInRange r → readingCost (parts (h .gap)) r ≤ mostCost → c ≤ pairCap → m ≤ mostPower
+      → Good (seenAt h known) (readingRow r .operands) (i ∷ (readingBits r ++ (c ∷ m ∷ [])))
+  good-reading (Both l) c m I high c-high m-high =
+      let u = I .usable in
+      let over : isOver (parts (h .gap)) (levelsOf (i ∷ toBits binary32 (l .noise) ∷ toBits binary32 (l .gain) ∷ [])) ≡ false =
+      rw (float-back (l .noise) (u .0), float-back (l .gain) (u .1)) (not-over (parts (h .gap)) (Both l) (I .ratio-finite) high) in
+      newTone i small of-line new (usable (l .noise) (u .0) (lastUsable 4 levelsOf (l .gain) (u .1) over (bounds pairCap c m (omega arith) c-high m-high)))
+  good-reading (Ratio x) c m I high c-high m-high =
+      let over : isOver (parts (h .gap)) (ratioOf (i ∷ toBits binary32 x ∷ [])) ≡ false =
+      rw (float-back x (I .usable)) (not-over (parts (h .gap)) (Ratio x) (I .ratio-finite) high) in
+      newTone i small of-line new (lastUsable 0 ratioOf x (I .usable) over (bounds pairCap c m (omega arith) c-high m-high))
 
-    numbers : drop (at + 1) s ≡ bytes 1 i ++ (bytes 2 (x .noise) ++ (bytes 2 (x .gain) ++ (bytes 1 (x .cap) ++ (bytes 8 (x .mask) ++ q))))
-    numbers = stands-after s (toneRow single .code ∷ []) _ at 1 refl e ∙ rw (row-is-tone single) (simp append-assoc)
+  pub good-tone : (k : Kind) → InRange (parts (h .gap)) (record { kind = k }) → Good (seenAt h known) (kindRow k .operands) (i ∷ kindValues k)
+  unfolding kindCost
+  good-tone (Pair n) I = good-numbers false n (I .kind) (omega arith) (I .bounds .cap-high) (I .bounds .mask-high)
+  good-tone (Single n) I = good-numbers true n (I .kind) (omega arith) (I .bounds .cap-high) (I .bounds .mask-high)
+  good-tone (Read n) I = good-reading (n .reading) (n .cap) (n .mask) (I .kind) (I .cost .high) (I .bounds .cap-high) (I .bounds .mask-high)

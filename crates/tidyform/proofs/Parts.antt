@@ -1,36 +1,44 @@
 -- The parts of the tidy form: how long each is, and how the lists of them grow. Assumes nothing.
 use mathlib.Core.Path.{_≡_, refl, ap, _∙_}
-use mathlib.Core.Bool.{Bool, true, false}
-use mathlib.Core.List.{List, [], _∷_}
-use Prim.Native.Nat.{ℕ, _≤_}
+use mathlib.Core.List.{List, [], _∷_, _++_}
+use Prim.Native.Nat.{ℕ, _+_, _≤_}
 use native.Mathlib.Decide.{ℕ-discrete}
 use native.Mathlib.Omega.{arith}
 use borrow.Author.Tests.{eq-eqb, ne-eqb}
 use lib.ListN.{length, getD, length-append}
-use Rattle.sizes.specs.Sizes.{toneCommand, silenceCommand}
+use Rattle.sizes.specs.Sizes.{silenceCommand}
 use Rattle.bigendian.proofs.Numbers.{length-bytes}
 use Rattle.bigendian.proofs.Stores.{Growing}
-use Rattle.line.specs.declared.Tone.{Tone}
-use Rattle.line.specs.Tone.{carried, isSingle}
-use Rattle.line.specs.Line.{Entry, undescribed, described}
-use Rattle.rows.specs.Rows.{Row, tone}
+use Rattle.readings.specs.declared.Reading.{Reading}
+use Rattle.readings.specs.declared.Reading.the-variants.{Both, Ratio}
+use Rattle.line.specs.declared.Kind.{Kind}
+use Rattle.line.specs.declared.Kind.the-variants.{Pair, Single, Read}
+use Rattle.line.specs.Line.{Entry, undescribed}
+use Rattle.rows.specs.Rows.{width}
 use Rattle.rows.specs.Codes.{toneRow, silenceRow}
-use Rattle.tidyform.specs.Tidy.{written, numbersOf, entryBytes, toneBytes, wordBytes, mapBytes}
+use Rattle.tidyform.specs.Tidy.{written, readingRow, readingBits, kindRow, kindValues, entryBytes, toneBytes, wordBytes, mapBytes}
 
 -- A command.
 
--- the tone commands differ in their byte and in their cap's range
-pub row-is-tone : (single : Bool) → toneRow single ≡ tone (toneRow single .code) single
-row-is-tone false = refl
-row-is-tone true = refl
+-- every row of a tone has the tone's number first
+pub row-is-tone : (k : Kind) → kindRow k ≡ toneRow (kindRow k .code)
+row-is-tone (Pair n) = refl
+row-is-tone (Single n) = refl
+row-is-tone (Read n) = by (n .reading)
+  where
+    by : (r : Reading) → readingRow r ≡ toneRow (readingRow r .code)
+    by (Both l) = refl
+    by (Ratio x) = refl
 
-pub length-described : (i : ℕ) (t : Tone) → length (entryBytes i (described t)) ≡ toneCommand
-length-described i t =
-    ap (λ (r : Row). length (written r (numbersOf i (carried t)))) (row-is-tone (isSingle (t .kind))) ∙ simp (length-append, length-bytes)
-
-pub length-entry-le : (i : ℕ) (e : Entry) → length (entryBytes i e) ≤ toneCommand
-length-entry-le i undescribed = omega arith
-length-entry-le i (described t) = omega (arith, length-described i t)
+-- a tone's command has the bytes of its kind's row
+pub length-described : (i : ℕ) (k : Kind) → length (written (kindRow k) (i ∷ kindValues k)) ≡ 1 + width (kindRow k .operands)
+length-described i (Pair n) = simp (length-append, length-bytes)
+length-described i (Single n) = simp (length-append, length-bytes)
+length-described i (Read n) = by (n .reading)
+  where
+    by : (r : Reading) → length (written (readingRow r) (i ∷ (readingBits r ++ (n .cap ∷ n .mask ∷ [])))) ≡ 1 + width (readingRow r .operands)
+    by (Both l) = simp (length-append, length-bytes)
+    by (Ratio x) = simp (length-append, length-bytes)
 
 pub no-word : (word : ℕ) {map : ℕ} → map ≡ 0 → wordBytes word map ≡ []
 no-word word {map} e = rw (eq-eqb map 0 e)

@@ -13,28 +13,39 @@ use native.Mathlib.Nat.{eq-or-lt-of-le, le-of-suc-le-suc, not-suc-le-zero}
 use native.Mathlib.Omega.{arith}
 use borrow.Author.Tests.{le-ltb, eqb-true}
 use lib.Dec.{eqb}
-use lib.ListN.{length, getD, set, drop, replicate, length-set, length-replicate}
+use lib.ListN.{length, getD, set, drop, replicate, length-set, length-replicate, length-append}
 use lib.Seq.{getD-set-same, getD-set-other, set-getD, ext-getD}
 use Rattle.sizes.specs.Sizes.{mostPower, mostWords, mostTones, longestSheet, wordsOf}
 use Rattle.lists.proofs.Stores.{all-same}
 use Rattle.bigendian.proofs.Numbers.{bytes-one}
 use Rattle.silence.proofs.Maps.{clear-beyond}
-use Rattle.line.specs.declared.Tone.{Tone}
+use Rattle.line.specs.declared.Kind.{Kind}
 use Rattle.gaps.specs.declared.Gap.{Gap}
 use Rattle.gaps.specs.declared.Gap.the-variants.{Parts, Tenths}
 use Rattle.gaps.specs.Gap.{gapUnit, mostGap, mostTenths, GapInRange}
-use Rattle.line.specs.Tone.{carried, isSingle, InRange}
-use Rattle.line.specs.Line.{Entry, undescribed, described, EntryInRange, LineInRange, Line}
+use Rattle.line.specs.Tone.{KindInRange, InRange}
+use Rattle.line.specs.Line.{Entry, undescribed, described, EntryInRange, LineInRange, Line, gapOf}
 use Rattle.rows.specs.declared.Command.the-variants.{Describe, Silence}
-use Rattle.rows.specs.Rows.{gap, tenths, budget, end}
-use Rattle.rows.specs.Codes.{sizeRow, toneRow, silenceRow}
+use Rattle.rows.specs.Rows.{Seen, width, gap, tenths, budget, end}
+use Rattle.rows.specs.Codes.{sizeRow, silenceRow}
+use Rattle.places.specs.Places.{toneAt}
 use Rattle.sheet.specs.Reading.{accepted, readingIn, reading, bareLine, emptyLine, afterCommand, go}
 use Rattle.sheet.proofs.Sound.{Sound}
-use Rattle.tidyform.specs.Tidy.{written, numbersOf, entryBytes, wordBytes, toneBytes, mapBytes, gapBytes, headBytes, tidy}
-use Rattle.tidyform.proofs.Parts.{row-is-tone}
-use Rattle.tidyform.proofs.Length.{tidy-short}
-use Rattle.tidyform.proofs.Written.{seenIn, Good, nothing, Reads, reads-written, reads-end}
-use Rattle.tidyform.proofs.Operands.{ranged, newMap, good-tone, tone-found, tone-does, tone-stands}
+use Rattle.tidyform.specs.Tidy.{written, kindRow, kindValues, entryBytes, wordBytes, toneBytes, mapBytes, gapBytes, headBytes, tidy}
+use Rattle.tidyform.proofs.Parts.{row-is-tone, length-described}
+use Rattle.tidyform.proofs.Written.{byte-stands, stands-after, stands-length, seenIn, Good, nothing, operands-stand, Reads, reads-written, reads-end}
+use Rattle.tidyform.proofs.Operands.{ranged, newMap, good-tone, tone-found, tone-does}
+use Rattle.tidyform.proofs.Tones.{tone-stands}
+
+-- where the command of a tone of a kind stands in a sheet, the sheet has that tone
+tone-there : {seen : Seen} (s q : List ℕ) (at i : ℕ) (k : Kind) → KindInRange k → at ≤ length s → drop at s ≡ written (kindRow k) (i ∷ kindValues k) ++ q
+    → Good seen (kindRow k .operands) (i ∷ kindValues k) → toneAt s at ≡ record { kind = k }
+tone-there s q at i k I h d good =
+    let all : List ℕ = written (kindRow k) (i ∷ kindValues k) in
+    let code = byte-stands s _ at (kindRow k .code) d in
+    let operands = operands-stand s q (at + 1) good (stands-after s (kindRow k .code ∷ []) _ at 1 refl d) in
+    let whole : at + 1 + width (kindRow k .operands) ≤ length s = omega (arith, stands-length s (all ++ q) at h d, length-append all q, length-described i k) in
+    ap (λ (j : Kind). record { kind = j }) (tone-stands s at i k I code whole operands)
 
 -- A list filled from the front.
 
@@ -92,27 +103,27 @@ Ends l q n m = Reads q 3 (part l n m) (accepted l)
 module _ (l : Line) (S : Sound l) where
   -- Tones.
 
-  tone-goes : (n : ℕ) (t : Tone) (q : List ℕ) → getD (l .entries) n undescribed ≡ described t → InRange t → (s : List ℕ) (at to : ℕ) → at ≤ length s
-      → drop at s ≡ entryBytes n (described t) ++ q → afterCommand (Describe n) to s at 3 (part l n 0) ≡ go to 3 (part l (suc n) 0)
-  unfolding part filled
-  tone-goes n t q e I s at to h d = rw (e, tone-stands s q at n t I h d)
-
-  tone-good : (n : ℕ) (t : Tone) (q : List ℕ) → n < l .size → InRange t
-      → Good (seenIn (part l n 0) (entryBytes n (described t) ++ q)) (toneRow (isSingle (t .kind)) .operands) (numbersOf n (carried t))
+  tone-good : (n : ℕ) (k : Kind) (q : List ℕ) → n < l .size → InRange (gapOf l) (record { kind = k })
+      → Good (seenIn (part l n 0) (written (kindRow k) (n ∷ kindValues k) ++ q)) (kindRow k .operands) (n ∷ kindValues k)
   unfolding part
-  tone-good n t q h I =
+  tone-good n k q h I =
+      let small : n < 256 = omega (arith, S .in-range .size-high) in
       let new = absent-from undescribed (l .size) (l .entries) n n (omega arith) in
-      let here = bytes-one n (omega (arith, S .in-range .size-high)) in
-      good-tone n t (omega (arith, S .in-range .size-high)) h (rw (row-is-tone (isSingle (t .kind)), here, new)) I
+      good-tone _ _ n small h (rw (row-is-tone k, bytes-one n small, new)) k I
 
-  entry-ends : (n : ℕ) (e : Entry) (q : List ℕ) → n < l .size → getD (l .entries) n undescribed ≡ e → EntryInRange e
+  tone-goes : (n : ℕ) (k : Kind) (q : List ℕ) → n < l .size → getD (l .entries) n undescribed ≡ described (record { kind = k }) → InRange (gapOf l) (record { kind = k })
+      → (s : List ℕ) (at to : ℕ) → at ≤ length s → drop at s ≡ written (kindRow k) (n ∷ kindValues k) ++ q
+      → afterCommand (Describe n) to s at 3 (part l n 0) ≡ go to 3 (part l (suc n) 0)
+  unfolding part filled
+  tone-goes n k q small e I s at to h d = rw (e, tone-there s q at n k (I .kind) h d (tone-good n k q small I))
+
+  entry-ends : (n : ℕ) (e : Entry) (q : List ℕ) → n < l .size → getD (l .entries) n undescribed ≡ e → EntryInRange (gapOf l) e
       → Ends l q (suc n) 0 → Ends l (entryBytes n e ++ q) n 0
   unfolding part
   entry-ends n undescribed q h e I ends = rw (← filled-skip undescribed (l .size) (l .entries) n e) ends
   entry-ends n (described t) q h e I ends =
-      let single : Bool = isSingle (t .kind) in
-      reads-written (part l n 0) 3 (toneRow single) (numbersOf n (carried t)) q (tone-found single) (tone-good n t q h I)
-      (λ s at k d. rw (tone-does single) (tone-goes n t q e I s at _ k d)) ends
+      reads-written (part l n 0) 3 (kindRow (t .kind)) (n ∷ kindValues (t .kind)) q (tone-found (t .kind)) (tone-good n (t .kind) q h I)
+      (λ s at k d. rw (tone-does (t .kind)) (tone-goes n (t .kind) q h e I s at _ k d)) ends
 
   tones-end : (n : ℕ) (q : List ℕ) → n ≤ l .size → Ends l q n 0 → Ends l (toneBytes n (l .entries) ++ q) 0 0
   unfolding toneBytes
@@ -183,8 +194,8 @@ module _ (l : Line) (S : Sound l) where
   tidy-ends : Reads (tidy l) 0 emptyLine (accepted l)
   tidy-ends = rw tidy-parts (head-ends _ (tones-end (l .size) _ (omega arith) (maps-end (wordsOf (l .size)) _ (omega arith) (rw part-all (reads-end l)))))
 
-  pub tidy-reads : reading (tidy l) ≡ accepted l
+  pub tidy-reads : length (tidy l) ≤ longestSheet → reading (tidy l) ≡ accepted l
   unfolding readingIn
-  tidy-reads =
-      rw (le-ltb longestSheet (length (tidy l)) (tidy-short l (S .in-range .size-high)))
+  tidy-reads short =
+      rw (le-ltb longestSheet (length (tidy l)) short)
       (tidy-ends (tidy l) 0 (suc (length (tidy l))) (omega arith) refl (omega arith))

@@ -63,17 +63,28 @@ length-operands : {seen : Seen} {os : List Operand} {vs : List ℕ} → Good see
 length-operands nothing = refl
 length-operands (value {o = o} {v = v} h p g) = simp (length-append, length-bytes) (omega (arith, length-operands g))
 
--- operands that stand there make the command do what their values do
-operands-done : {seen : Seen} {os : List Operand} {vs : List ℕ} (s q : List ℕ) (at : ℕ) (does : List ℕ → Command) → Good seen os vs
-    → drop at s ≡ operandBytes os vs ++ q → operandsFrom seen s at os does ≡ does (seen .before ++ vs)
-operands-done {seen} s q at does nothing e = ap does (sym (append-nil (seen .before)))
-operands-done {seen} s q at does (value {o = o} {os = os} {v = v} {vs = vs} h p g) e =
+-- The values of operands stand in a sheet, one after the other from a place on.
+abbrev pub Stand : List ℕ → (at : ℕ) → List Operand → (values : List ℕ) → Type 0
+Stand s at [] vs = Unit {0}
+Stand s at (o ∷ os) [] = ⊥
+Stand s at (o ∷ os) (v ∷ vs) = (number s at (o .width) ≡ v) × Stand s (at + o .width) os vs
+
+-- as their bytes do
+pub operands-stand : {seen : Seen} {os : List Operand} {vs : List ℕ} (s q : List ℕ) (at : ℕ) → Good seen os vs → drop at s ≡ operandBytes os vs ++ q → Stand s at os vs
+operands-stand s q at nothing e = tt
+operands-stand s q at (value {o = o} {os = os} {v = v} {vs = vs} h p g) e =
     let rest : List ℕ = operandBytes os vs ++ q in
-    let e′ : drop at s ≡ bytes (o .width) v ++ rest = e ∙ append-assoc (bytes (o .width) v) (operandBytes os vs) q in
-    let n : number s at (o .width) ≡ v = number-stands s rest at (o .width) v h e′ in
-    rw (n, p at)
-    (operands-done s q (at + o .width) does g (stands-after s (bytes (o .width) v) rest at (o .width) (length-bytes (o .width) v) e′)
-    ∙ ap does (append-assoc (seen .before) (v ∷ []) vs))
+    let e′ : drop at s ≡ bytes (o .width) v ++ rest = e ∙ append-assoc (bytes (o .width) v) (operandBytes os vs) q in (
+      number-stands s rest at (o .width) v h e′,
+      operands-stand s q (at + o .width) g (stands-after s (bytes (o .width) v) rest at (o .width) (length-bytes (o .width) v) e′),
+    )
+
+-- and the command then does what their values do
+operands-done : {seen : Seen} {os : List Operand} {vs : List ℕ} (s : List ℕ) (at : ℕ) (does : List ℕ → Command) → Good seen os vs → Stand s at os vs
+    → operandsFrom seen s at os does ≡ does (seen .before ++ vs)
+operands-done {seen} s at does nothing st = ap does (sym (append-nil (seen .before)))
+operands-done {seen} s at does (value {o = o} {v = v} {vs = vs} h p g) st =
+    rw (st .0, p at) (operands-done s (at + o .width) does g (st .1) ∙ ap does (append-assoc (seen .before) (v ∷ []) vs))
 
 -- Commands.
 
@@ -91,11 +102,11 @@ module _ (l : Line) (stage : ℕ) (r : Row) (vs q : List ℕ) (found : withCode 
   length-written = simp length-append (omega (arith, length-operands good))
 
   module _ (s : List ℕ) (at : ℕ) (e : drop at s ≡ written r vs ++ q) where
-    operands-stand : drop (at + 1) s ≡ operandBytes (r .operands) vs ++ q
-    operands-stand = stands-after s (r .code ∷ []) (operandBytes (r .operands) vs ++ q) at 1 refl e
+    operands-there : drop (at + 1) s ≡ operandBytes (r .operands) vs ++ q
+    operands-there = stands-after s (r .code ∷ []) (operandBytes (r .operands) vs ++ q) at 1 refl e
 
     next-stands : drop (next r at) s ≡ q
-    next-stands = stands-after s (operandBytes (r .operands) vs) q (at + 1) (width (r .operands)) (length-operands good) operands-stand
+    next-stands = stands-after s (operandBytes (r .operands) vs) q (at + 1) (width (r .operands)) (length-operands good) operands-there
 
     length-sheet : at ≤ length s → length s ≡ next r at + length q
     length-sheet h = omega (arith, stands-length s (written r vs ++ q) at h e, length-written)
@@ -107,7 +118,7 @@ module _ (l : Line) (stage : ℕ) (r : Row) (vs q : List ℕ) (found : withCode 
         let code : getD s at 0 ≡ r .code = byte-stands s (operandBytes (r .operands) vs ++ q) at (r .code) e in
         let whole : ltb (length s) (next r at) ≡ false = le-ltb (length s) (next r at) (omega (arith, length-sheet h)) in
         let tone : addressed s at ≡ addressed (written r vs ++ q) 0 = sym (getD-drop at s 1 0) ∙ ap (λ (t : List ℕ). getD t 1 0) e in
-        rw (there, code, found, whole, tone, operands-done s q (at + 1) (r .does (headerOf l)) good operands-stand)
+        rw (there, code, found, whole, tone, operands-done s (at + 1) (r .does (headerOf l)) good (operands-stand s q (at + 1) good operands-there))
 
   -- what comes of the rest, after the command, comes of the whole
   pub reads-written : {stage′ : ℕ} {l′ : Line} {out : Meaning}

@@ -1,20 +1,23 @@
--- The tidy form of a line. Document 01, 'The line sheet'; document 02, W1.
+-- The tidy form of a line. Document 01, 'The line sheet'; document 02, W1 and W5.
 -- Assumes nothing.
 use mathlib.Core.Bool.{cond}
 use mathlib.Core.List.{List, [], _∷_, _++_}
 use Prim.Native.Nat.{ℕ, zero, suc}
 use lib.Dec.{eqb}
+use lib.Ieee.{binary32, toBits}
 use lib.ListN.{getD}
 use Rattle.sizes.specs.Sizes.{wordsOf}
 use Rattle.bigendian.specs.Number.{bytes}
 use Rattle.gaps.specs.declared.Gap.{Gap}
 use Rattle.gaps.specs.declared.Gap.the-variants.{Parts, Tenths}
-use Rattle.line.specs.declared.Numbers.{Numbers}
-use Rattle.line.specs.Tone.{carried, isSingle}
+use Rattle.readings.specs.declared.Reading.{Reading}
+use Rattle.readings.specs.declared.Reading.the-variants.{Both, Ratio}
+use Rattle.line.specs.declared.Kind.{Kind}
+use Rattle.line.specs.declared.Kind.the-variants.{Pair, Single, Read}
 use Rattle.line.specs.Line.{Entry, undescribed, described, Line}
 use Rattle.rows.specs.declared.Header.{Header}
-use Rattle.rows.specs.Rows.{Row, Operand, gap, tenths, budget, end}
-use Rattle.rows.specs.Codes.{sizeRow, toneRow, silenceRow}
+use Rattle.rows.specs.Rows.{Row, Operand, gap, tenths, budget, pair, single, levels, ratio, end}
+use Rattle.rows.specs.Codes.{sizeRow, silenceRow}
 use Rattle.sheet.specs.Reading.{headerOf}
 
 -- A command as bytes: its own, then its operands' values, each in its width.
@@ -26,13 +29,30 @@ operandBytes (o ∷ os) (v ∷ vs) = bytes (o .width) v ++ operandBytes os vs
 abbrev pub written : Row → (values : List ℕ) → List ℕ
 written r values = r .code ∷ operandBytes (r .operands) values
 
-abbrev pub numbersOf : (i : ℕ) → Numbers → List ℕ
-numbersOf i n = i ∷ n .noise ∷ n .gain ∷ n .cap ∷ n .mask ∷ []
+-- W5: 'Tidying keeps the float bits'; noise and gain, or their ratio
+abbrev pub readingRow : Reading → Row
+readingRow (Both l) = levels
+readingRow (Ratio x) = ratio
+
+abbrev pub readingBits : Reading → List ℕ
+readingBits (Both l) = toBits binary32 (l .noise) ∷ toBits binary32 (l .gain) ∷ []
+readingBits (Ratio x) = toBits binary32 x ∷ []
+
+-- the command that describes a tone of a kind, and what it carries after the tone's number
+abbrev pub kindRow : Kind → Row
+kindRow (Pair n) = pair
+kindRow (Single n) = single
+kindRow (Read n) = readingRow (n .reading)
+
+abbrev pub kindValues : Kind → List ℕ
+kindValues (Pair n) = n .noise ∷ n .gain ∷ n .cap ∷ n .mask ∷ []
+kindValues (Single n) = n .noise ∷ n .gain ∷ n .cap ∷ n .mask ∷ []
+kindValues (Read n) = readingBits (n .reading) ++ (n .cap ∷ n .mask ∷ [])
 
 -- 'the described tones in rising number'; a silenced tone stays described
 abbrev pub entryBytes : (i : ℕ) → Entry → List ℕ
 entryBytes i undescribed = []
-entryBytes i (described t) = written (toneRow (isSingle (t .kind))) (numbersOf i (carried t))
+entryBytes i (described t) = written (kindRow (t .kind)) (i ∷ kindValues (t .kind))
 
 unfoldable pub toneBytes : (count : ℕ) → List Entry → List ℕ
 toneBytes zero entries = []

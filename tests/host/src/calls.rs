@@ -125,9 +125,11 @@ impl Call {
     /// The refusals that the call can give.
     pub fn refusals(self) -> &'static [u64] {
         match self {
-            Call::Check | Call::LoadMost | Call::Tidy | Call::Limits => &[1, 2, 3, 4, 5, 6, 7, 8],
-            Call::LoadTarget => &[1, 2, 3, 4, 5, 6, 7, 8, 11],
-            Call::Refit | Call::RefitStep => &[1, 2, 3, 4, 5, 6, 7, 8, 9, 10],
+            Call::Check | Call::LoadMost | Call::Tidy | Call::Limits => {
+                &[1, 2, 3, 4, 5, 6, 7, 8, 12, 13]
+            }
+            Call::LoadTarget => &[1, 2, 3, 4, 5, 6, 7, 8, 11, 12, 13],
+            Call::Refit | Call::RefitStep => &[1, 2, 3, 4, 5, 6, 7, 8, 9, 10, 12, 13],
         }
     }
 

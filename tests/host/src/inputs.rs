@@ -1,14 +1,14 @@
 //! What a call is given: sheet, starting table, target and buffer lengths, all
-//! from a seed and an index. Seed 0 is the sample sheet of document 01, and then one
-//! with its gap in tenths of a decibel, each with one byte changed, cut off or added,
-//! in every way; other seeds are random.
+//! from a seed and an index. Seed 0 is the sample sheet of document 01, then one with
+//! its gap in tenths of a decibel, and one with readings, each with one byte changed, cut
+//! off or added, in every way; other seeds are random.
 
 use crate::damage::{damaged, WAYS};
 use crate::paper::line::{read, Line};
 use crate::paper::run::Running;
 use crate::paper::{tidy_length, ANSWER_BYTES, BYTES_A_LIMIT, BYTES_A_TONE};
 use crate::random::Random;
-use crate::sheets::{commands, IN_TENTHS, SAMPLE};
+use crate::sheets::{commands, IN_TENTHS, READINGS, SAMPLE};
 
 #[derive(Clone)]
 pub struct Input {
@@ -29,7 +29,7 @@ const fn changes(sheet: &[u8]) -> usize {
 }
 
 /// How many inputs seed 0 has.
-pub const SAMPLE_INPUTS: u64 = (changes(&SAMPLE) + changes(&IN_TENTHS)) as u64;
+pub const SAMPLE_INPUTS: u64 = (changes(&SAMPLE) + changes(&IN_TENTHS) + changes(&READINGS)) as u64;
 
 pub fn input(seed: u64, index: u64) -> Input {
     let mut random = Random::new(seed, index);
@@ -63,16 +63,23 @@ fn changed(sheet: &[u8], index: usize) -> Vec<u8> {
     sheet
 }
 
+/// The sheet of an index of seed 0.
+fn sample_sheet(index: usize) -> Vec<u8> {
+    let (first, second) = (changes(&SAMPLE), changes(&IN_TENTHS));
+    match index {
+        _ if index < first => changed(&SAMPLE, index),
+        _ if index < first + second => changed(&IN_TENTHS, index - first),
+        _ => changed(&READINGS, index - first - second),
+    }
+}
+
 fn sample_input(random: &mut Random, index: usize) -> Input {
     Input {
-        sheet: match index.checked_sub(changes(&SAMPLE)) {
-            None => changed(&SAMPLE, index),
-            Some(index) => changed(&IN_TENTHS, index),
-        },
+        sheet: sample_sheet(index),
         start: vec![0, 2, 3],
         target: 6,
         table: random.bytes(256 * BYTES_A_TONE),
-        tidy: random.bytes(64),
+        tidy: random.bytes(READINGS.len() + 3),
         answer: random.bytes(ANSWER_BYTES + 8),
         limits: random.bytes(256 * BYTES_A_LIMIT),
     }

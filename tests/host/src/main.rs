@@ -4,6 +4,7 @@ mod calls;
 mod compare;
 mod damage;
 mod documents;
+mod floats;
 mod guard;
 mod inputs;
 mod limits;

@@ -1,16 +1,18 @@
-//! An independent loader, written from document 01 and document 02's requests W1 and
-//! W3: the six calls as the C host makes them, the limits by its conventions, and
+//! An independent loader, written from document 01 and document 02's requests W1, W3
+//! and W5: the six calls as the C host makes them, the limits by its conventions, and
 //! what the bench program prints. It keeps each tone's next free and last held step;
 //! each move scans all of them for the earliest free and the latest held.
 
 pub mod gap;
 pub mod line;
+pub mod reading;
 pub mod run;
 #[cfg(test)]
 mod sample;
 
 use gap::Gap;
-use line::{read, Kind, Line, Tone};
+use line::{read, Given, Kind, Line, Tone};
+use reading::Reading;
 use run::Running;
 
 pub const BYTES_A_TONE: usize = 9;
@@ -139,9 +141,22 @@ impl Tidy<'_> {
     }
 
     fn put_tone(&mut self, number: usize, tone: &Tone) {
-        self.put(&[if tone.kind == Kind::Pair { 4 } else { 5 }, number as u8]);
-        self.put(&tone.noise.to_be_bytes());
-        self.put(&tone.gain.to_be_bytes());
+        match tone.given {
+            Given::Whole { noise, gain } => {
+                self.put(&[if tone.kind == Kind::Pair { 4 } else { 5 }, number as u8]);
+                self.put(&noise.to_be_bytes());
+                self.put(&gain.to_be_bytes());
+            }
+            Given::Read(Reading::NoiseAndGain(noise, gain)) => {
+                self.put(&[9, number as u8]);
+                self.put(&noise.to_be_bytes());
+                self.put(&gain.to_be_bytes());
+            }
+            Given::Read(Reading::Ratio(ratio)) => {
+                self.put(&[10, number as u8]);
+                self.put(&ratio.to_be_bytes());
+            }
+        }
         self.put(&[tone.cap]);
         self.put(&tone.mask.to_be_bytes());
     }
@@ -169,7 +184,8 @@ impl Tidy<'_> {
 
 pub fn tidy_length(line: &Line) -> usize {
     let words = line.silenced.iter().filter(|map| **map != 0).count();
-    3 + line.gap.length() + 9 + 15 * line.count_described() as usize + 6 * words + 1
+    let tones: usize = line.described.iter().flatten().map(Tone::length).sum();
+    3 + line.gap.length() + 9 + tones + 6 * words + 1
 }
 
 pub fn tidy(sheet: &[u8], tidy: &mut [u8], answer: &mut [u8]) -> u64 {

@@ -5,8 +5,9 @@ use crate::inputs;
 use crate::paper::gap::{Gap, MOST_TENTHS};
 use crate::paper::line::LARGEST_SHEET;
 use crate::paper::printed;
+use crate::paper::reading::Reading;
 use crate::random::Random;
-use crate::sheets::{bare, silence, IN_TENTHS, SAMPLE};
+use crate::sheets::{bare, reading, silence, IN_TENTHS, READINGS, SAMPLE};
 use std::io::{ErrorKind, Write};
 use std::path::{Path, PathBuf};
 use std::process::{Command, Stdio};
@@ -16,9 +17,10 @@ use std::time::Duration;
 pub const SHEETS: u64 = 600;
 const SEED: u64 = 2;
 /// The examples that there must be.
-const EXAMPLES: [&str; 5] = ["long_cable", "refused", "sample", "short_cable", "spliced_pair"];
+const EXAMPLES: [&str; 6] =
+    ["analyser", "long_cable", "refused", "sample", "short_cable", "spliced_pair"];
 /// Sheets that any comparison should have, before the random ones.
-const FIXED: u64 = 13;
+const FIXED: u64 = 18;
 
 /// A sheet as long as one that is accepted can be: 4,096 bytes, or 4,095 where the
 /// gap is in tenths.
@@ -37,6 +39,27 @@ fn in_tenths(tenths: u8) -> Vec<u8> {
     sheet
 }
 
+/// The sheet of readings, with another ratio.
+fn with_ratio(ratio: f32) -> Vec<u8> {
+    let mut sheet = READINGS.to_vec();
+    sheet[36..40].copy_from_slice(&ratio.to_be_bytes());
+    sheet
+}
+
+/// A line on which each tone is the same reading, for as many tones as fit.
+fn full_of(read: Reading) -> Vec<u8> {
+    let mut commands = bare(256, Gap::Whole(300), 5_000);
+    let mut length = commands.concat().len();
+    for number in 0..=255 {
+        let tone = reading(number, read, 15, 1_000);
+        length += tone.len();
+        if length <= LARGEST_SHEET {
+            commands.insert(commands.len() - 1, tone);
+        }
+    }
+    commands.concat()
+}
+
 fn sheet(index: u64) -> Vec<u8> {
     let long = longest(Gap::Whole(256));
     match index {
@@ -53,6 +76,11 @@ fn sheet(index: u64) -> Vec<u8> {
         10 => in_tenths(MOST_TENTHS),
         11 => in_tenths(MOST_TENTHS + 1),
         12 => longest(Gap::Tenths(100)),
+        13 => READINGS.to_vec(),
+        14 => with_ratio(f32::INFINITY),
+        15 => with_ratio(f32::MAX),
+        16 => full_of(Reading::NoiseAndGain(3.0_f32.to_bits(), 2.0_f32.to_bits())),
+        17 => full_of(Reading::Ratio(1)),
         FIXED.. => inputs::sheet(&mut Random::new(SEED, index), index),
     }
 }

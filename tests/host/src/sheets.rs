@@ -1,7 +1,9 @@
 //! Valid line sheets from a seed.
 
+use crate::floats;
 use crate::paper::gap::{Gap, MOST_TENTHS};
-use crate::paper::line::{cost, power, read, Kind, LARGEST_POWER, LARGEST_SHEET};
+use crate::paper::line::{power, read, Given, Kind, Tone, LARGEST_POWER, LARGEST_SHEET};
+use crate::paper::reading::{Reading, LARGEST_COST};
 use crate::paper::run::Running;
 use crate::random::Random;
 
@@ -26,6 +28,16 @@ pub const IN_TENTHS: [u8; 60] = [
     5, 2, 0, 100, 0, 1, 7, 0, 0, 0, 0, 0, 1, 0, 0, 7,
 ];
 
+/// A sheet with readings, of noise 10,000,000.0 and gain 3.0, and of ratio 1,234,567.0:
+/// their last bits show in the cost, and the budget leaves each tone some bits, whose
+/// power shows it.
+pub const READINGS: [u8; 65] = [
+    1, 0, 3, 2, 1, 44, 3, 0, 0, 0, 0, 0x3b, 0x9a, 0xca, 0, //
+    9, 0, 0x4b, 0x18, 0x96, 0x80, 0x40, 0x40, 0, 0, 9, 0, 0, 1, 0, 0, 0, 0, 0, //
+    10, 1, 0x49, 0x96, 0xb4, 0x38, 15, 0, 0, 0, 0, 0x20, 0, 0, 0, //
+    5, 2, 0xff, 0xff, 0, 1, 7, 0, 0, 1, 0, 0, 0, 0, 0, 7,
+];
+
 /// How the tones of one line compare.
 #[derive(Clone, Copy)]
 enum Likeness {
@@ -45,8 +57,11 @@ struct Plan {
     likeness: Likeness,
     /// Noise and gain, where they are the same for all.
     equal: (u16, u16),
-    /// How many tones in four are single.
+    /// How many tones in four are single, if they are not readings.
     singles: usize,
+    /// How many tones in four are readings, and how many of those in four are ratios.
+    readings: usize,
+    ratios: usize,
     tight_caps: bool,
     tight_masks: bool,
 }
@@ -55,7 +70,7 @@ fn tones(random: &mut Random) -> usize {
     let (low, high) = match random.below(8) {
         0 => return 1,
         1 => return random.pick(&[31, 32, 33, 63, 64, 65]),
-        2 => return random.pick(&[224, 225, 255, 256]),
+        2 => return random.pick(&[213, 214, 215, 224, 225, 255, 256, 256]),
         3 => (65, 256),
         4 => (17, 64),
         5 => (2, 4),
@@ -87,6 +102,8 @@ impl Plan {
             likeness,
             equal: random.pick(&[(17, 5), (1, 1), (65_535, 1), (1, 65_535)]),
             singles: random.pick(&[0, 1, 2, 4]),
+            readings: random.pick(&[0, 0, 1, 2, 4]),
+            ratios: random.pick(&[0, 2, 4]),
             tight_caps: random.once_in(3),
             tight_masks: random.once_in(2),
         }
@@ -119,19 +136,65 @@ impl Plan {
         }
     }
 
+    /// A reading like the line's other tones: of their noise and gain, at an edge, or of
+    /// any cost.
+    fn reading(&self, random: &mut Random, noise: u16, gain: u16) -> Reading {
+        let gap = self.gap.value();
+        let ratio = random.below(4) < self.ratios;
+        let whole = floats::of_whole(random, ratio, noise, gain);
+        let cost = random.sized(LARGEST_COST).max(1);
+        let reading = match self.likeness {
+            Likeness::Edges => floats::at_edge(random, ratio, gap),
+            Likeness::Any => floats::near_cost(random, ratio, gap, cost),
+            _ => whole,
+        };
+        if reading.cost(gap).is_some() {
+            reading
+        } else {
+            whole
+        }
+    }
+
     fn tone(&self, random: &mut Random, number: usize) -> Vec<u8> {
-        let single = random.below(4) < self.singles;
-        let (kind, most) = if single { (Kind::Single, 7) } else { (Kind::Pair, 15) };
         let (noise, gain) = self.noise_and_gain(random, number);
+        let single = random.below(4) < self.singles;
+        let (kind, given) = match random.below(4) < self.readings {
+            true => (Kind::Pair, Given::Read(self.reading(random, noise, gain))),
+            false if single => (Kind::Single, Given::Whole { noise, gain }),
+            false => (Kind::Pair, Given::Whole { noise, gain }),
+        };
+        let most = if kind == Kind::Single { 7 } else { 15 };
         let cap = match random.below(4) {
             0 if self.tight_caps => 0,
             1 if self.tight_caps => 1,
             2 => random.between(0, u64::from(most)) as u8,
             _ => most,
         };
-        let mask = self.mask(random, kind, cost(self.gap.value(), noise, gain), most);
-        tone(single, number as u8, noise, gain, cap, mask)
+        let tone = Tone { kind, given, cap, mask: 0 };
+        let mask = self.mask(random, kind, tone.cost(self.gap.value()), most);
+        description(number as u8, Tone { mask, ..tone })
     }
+}
+
+/// The command that describes a tone, as it stands in a sheet.
+fn description(number: u8, Tone { kind, given, cap, mask }: Tone) -> Vec<u8> {
+    match given {
+        Given::Whole { noise, gain } => tone(kind == Kind::Single, number, noise, gain, cap, mask),
+        Given::Read(read) => reading(number, read, cap, mask),
+    }
+}
+
+/// Command 09 or 0A, with any floats.
+pub fn reading(number: u8, reading: Reading, cap: u8, mask: u64) -> Vec<u8> {
+    let mut bytes = match reading {
+        Reading::NoiseAndGain(noise, gain) => {
+            [&[9, number][..], &noise.to_be_bytes(), &gain.to_be_bytes()].concat()
+        }
+        Reading::Ratio(ratio) => [&[10, number][..], &ratio.to_be_bytes()].concat(),
+    };
+    bytes.push(cap);
+    bytes.extend(mask.to_be_bytes());
+    bytes
 }
 
 pub fn tone(single: bool, number: u8, noise: u16, gain: u16, cap: u8, mask: u64) -> Vec<u8> {
@@ -225,16 +288,25 @@ fn budget(random: &mut Random, commands: &Commands) -> u64 {
     }
 }
 
+/// The tones that do not fit, of the longer readings, are not described.
 fn commands_of(random: &mut Random, tones: usize) -> Commands {
     let plan = Plan::new(random, tones);
     let mut commands = bare(tones, plan.gap, LARGEST_POWER);
+    let mut left = LARGEST_SHEET - commands.concat().len();
     for number in described(random, tones) {
         let tone = plan.tone(random, number);
-        commands.insert(commands.len() - 1, tone);
+        if tone.len() <= left {
+            left -= tone.len();
+            commands.insert(commands.len() - 1, tone);
+        }
     }
     for _ in 0..random.pick(&[0, 0, 1, 2, 12]) {
         let place = 3 + random.below(commands.len() - 3);
-        commands.insert(place, some_silence(random, tones));
+        let silence = some_silence(random, tones);
+        if silence.len() <= left {
+            left -= silence.len();
+            commands.insert(place, silence);
+        }
     }
     let budget = budget(random, &commands);
     commands[2][1..].copy_from_slice(&budget.to_be_bytes());
@@ -280,6 +352,42 @@ mod tests {
         let gap = |index| commands(&mut Random::new(1, index))[1][0];
         let in_tenths = (0..500).filter(|&index| gap(index) == 8).count();
         assert!((150..250).contains(&in_tenths), "{in_tenths} of 500 sheets have 08");
+    }
+
+    /// Of their tones, each command that describes one has a good share; and there are
+    /// lines as full of each command of readings as a sheet can be.
+    #[test]
+    fn tones_of_every_command() {
+        let (mut tones, mut lines) = ([0; 11], [0; 11]);
+        for index in 0..4_000 {
+            let commands = commands(&mut Random::new(1, index));
+            let count = |command| commands.iter().filter(|bytes| bytes[0] == command).count();
+            for command in [4, 5, 9, 10] {
+                tones[usize::from(command)] += count(command);
+            }
+            lines[9] += u32::from(count(9) == 214);
+            lines[10] += u32::from(count(10) == 256);
+        }
+        let all: usize = tones.iter().sum();
+        let share = |command: usize| 8 * tones[command] > all;
+        assert!([4, 5, 9, 10].into_iter().all(share), "tones by command: {tones:?}");
+        assert!(lines[9] >= 5 && lines[10] >= 5, "full lines by command: {lines:?}");
+    }
+
+    /// The costs of readings are of every size.
+    #[test]
+    fn costs_of_every_size() {
+        let mut sizes = [0; 25];
+        for index in 0..2_000 {
+            let line = read(&commands(&mut Random::new(1, index)).concat()).expect("a valid sheet");
+            for tone in line.described.iter().flatten() {
+                if let Given::Read(reading) = tone.given {
+                    let cost = reading.cost(line.gap.value()).expect("it was accepted");
+                    sizes[cost.ilog2() as usize] += 1;
+                }
+            }
+        }
+        assert!(sizes[..24].iter().all(|&count| count > 100), "costs from 2^k on: {sizes:?}");
     }
 
     /// Of their tones, each of the three that set a limit has a good share.

@@ -5,9 +5,10 @@ use crate::calls::{self, Buffer, Call};
 use crate::inputs::Input;
 use crate::paper::gap::Gap;
 use crate::paper::line::{read, Line, LARGEST_POWER};
+use crate::paper::reading::Reading;
 use crate::paper::run::Running;
 use crate::paper::{ANSWER_BYTES, BYTES_A_LIMIT, BYTES_A_TONE};
-use crate::sheets::{bare, silence, tone};
+use crate::sheets::{bare, reading, silence, tone};
 use crate::stack;
 use std::hint::black_box;
 use std::time::{Duration, Instant};
@@ -18,6 +19,19 @@ const ROUNDS: usize = 41;
 const ROUND: Duration = Duration::from_millis(1);
 /// How many tones the lines have.
 const TONES: [usize; 3] = [16, 64, 256];
+/// As many tones of 09 as a sheet has room for.
+const MOST_OF_09: usize = 214;
+
+/// How the tones of a line are given.
+#[derive(Clone, Copy, PartialEq, Eq)]
+enum By {
+    /// By 04, and the two at the ends by 05.
+    Whole,
+    /// All by 09.
+    Floats,
+    /// All by 0A.
+    Ratio,
+}
 
 /// A line to be timed: a cable, or four costs whose steps meet all the time.
 #[derive(Clone, Copy)]
@@ -27,21 +41,41 @@ struct Shape {
     bound: bool,
     ties: bool,
     gap: Gap,
+    by: By,
 }
 
 /// 12 dB.
 const CABLE_GAP: Gap = Gap::Whole(4057);
 const NO_GAP: Gap = Gap::Whole(256);
 
-const SHAPES: [Shape; 5] = [
-    Shape { name: "bound", bound: true, ties: false, gap: CABLE_GAP },
-    Shape { name: "bound, tenths", bound: true, ties: false, gap: Gap::Tenths(120) },
-    Shape { name: "unbound", bound: false, ties: false, gap: CABLE_GAP },
-    Shape { name: "bound, ties", bound: true, ties: true, gap: NO_GAP },
-    Shape { name: "unbound, ties", bound: false, ties: true, gap: NO_GAP },
+/// The first: the others are like it, but for what they name.
+const BOUND: Shape =
+    Shape { name: "bound", bound: true, ties: false, gap: CABLE_GAP, by: By::Whole };
+
+const SHAPES: [Shape; 7] = [
+    BOUND,
+    Shape { name: "bound, tenths", gap: Gap::Tenths(120), ..BOUND },
+    Shape { name: "unbound", bound: false, ..BOUND },
+    Shape { name: "bound, ties", ties: true, gap: NO_GAP, ..BOUND },
+    Shape { name: "unbound, ties", bound: false, ties: true, gap: NO_GAP, ..BOUND },
+    Shape { name: "bound, floats", by: By::Floats, ..BOUND },
+    Shape { name: "bound, ratios", by: By::Ratio, ..BOUND },
 ];
 
+/// Each line of each number of tones, or of as many as it can have.
+fn lines() -> impl Iterator<Item = (usize, Shape)> {
+    TONES.into_iter().flat_map(|tones| SHAPES.map(|shape| (shape.most(tones), shape)))
+}
+
 impl Shape {
+    /// So many tones, or as many as the line can have.
+    fn most(self, tones: usize) -> usize {
+        match self.by {
+            By::Floats => tones.min(MOST_OF_09),
+            _ => tones,
+        }
+    }
+
     /// Gain falls and noise rises; single tones at both ends; two silenced.
     fn sheet(self, tones: usize) -> Vec<u8> {
         let mut commands = bare(tones, self.gap, LARGEST_POWER);
@@ -51,9 +85,7 @@ impl Shape {
                 true => ([3, 12, 6, 24][number % 4], 1),
                 false => (20 + share / 3, 60_000 / (1 + share * share / 64)),
             };
-            let single = number == 0 || number == tones - 1;
-            let cap = if single { 7 } else { 15 };
-            let tone = tone(single, number as u8, noise as u16, gain as u16, cap, 40_000);
+            let tone = self.tone(tones, number, noise as u16, gain as u16);
             commands.insert(commands.len() - 1, tone);
         }
         commands.insert(commands.len() - 1, silence(0, 1 << 5 | 1 << 9));
@@ -64,6 +96,25 @@ impl Shape {
             commands[2][1..].copy_from_slice(&run.total_power.to_be_bytes());
         }
         commands.concat()
+    }
+
+    /// A reading is never of a single tone.
+    fn tone(self, tones: usize, number: usize, noise: u16, gain: u16) -> Vec<u8> {
+        const MASK: u64 = 40_000;
+        let single = number == 0 || number == tones - 1;
+        let floats = [noise, gain].map(f32::from);
+        let number = number as u8;
+        match self.by {
+            By::Whole => tone(single, number, noise, gain, if single { 7 } else { 15 }, MASK),
+            By::Floats => {
+                let [noise, gain] = floats.map(f32::to_bits);
+                reading(number, Reading::NoiseAndGain(noise, gain), 15, MASK)
+            }
+            By::Ratio => {
+                let ratio = floats[0] / floats[1];
+                reading(number, Reading::Ratio(ratio.to_bits()), 15, MASK)
+            }
+        }
     }
 
     /// A bound line is re-fitted from the full table, an unbound one from no bits.
@@ -151,7 +202,7 @@ fn row(call: Call, input: &Input) -> String {
 /// check reads the sheet; a target of no bits also works out the limits, ranks the
 /// steps and writes a table; a step also judges, copies and moves its start.
 fn parts_of_a_step(tones: usize) -> String {
-    let input = Input { target: 0, ..SHAPES[0].input(tones) };
+    let input = Input { target: 0, ..BOUND.input(tones) };
     let time = |call| best(call, &input).0;
     let (read, none, step) = (time(Call::Check), time(Call::LoadTarget), time(Call::RefitStep));
     let (before, after) = (none - read, step - none);
@@ -161,7 +212,7 @@ fn parts_of_a_step(tones: usize) -> String {
 /// What the time of the limits of all tones goes to, told by two of our calls on one
 /// line: a check reads the sheet; the limits also works them out and writes them.
 fn parts_of_the_limits(tones: usize) -> String {
-    let input = SHAPES[0].input(tones);
+    let input = BOUND.input(tones);
     let time = |call| best(call, &input).0;
     let (read, all) = (time(Call::Check), time(Call::Limits));
     let limits = all - read;
@@ -172,12 +223,10 @@ fn parts_of_the_limits(tones: usize) -> String {
 pub fn table() -> String {
     let mut table =
         "tones line          call          ours us  paper us   ratio   stack\n".to_string();
-    for tones in TONES {
-        for shape in SHAPES {
-            let input = shape.input(tones);
-            for call in Call::ALL {
-                table += &format!("{tones:>5} {:<14}{}\n", shape.name, row(call, &input));
-            }
+    for (tones, shape) in lines() {
+        let input = shape.input(tones);
+        for call in Call::ALL {
+            table += &format!("{tones:>5} {:<14}{}\n", shape.name, row(call, &input));
         }
     }
     table += "\nours us of one re-fit step, bound\n";
@@ -197,7 +246,7 @@ pub fn table() -> String {
 /// states.
 pub fn stack(most: u64) -> Result<String, String> {
     let mut largest = 0;
-    for (tones, shape) in TONES.into_iter().flat_map(|tones| SHAPES.map(|shape| (tones, shape))) {
+    for (tones, shape) in lines() {
         let input = shape.input(tones);
         for call in Call::ALL.into_iter().filter(|call| call.is_of_host()) {
             let mut lent = lent(call, &input);

@@ -2,7 +2,7 @@
 use Prim.Native.Nat.{_-_}
 use native.Mathlib.Omega.{arith}
 use borrow.Author.Needs.{needs}
-use Rattle.arrays.proofs.Indexed.{header-gap, size-high, gap-in-range, tone-in-range}
+use Rattle.arrays.proofs.Indexed.{size-high, tone-in-range}
 use Rattle.arrays.proofs.Filling.{FillingOf, filling-starts, filled-next, filled-line}
 use Rattle.arrays.proofs.fill_arrays.Statement.{statement}
 use Rattle.arrays.proofs.fill_arrays.Tie as tie
@@ -12,9 +12,6 @@ Inv-loop s header places maps limits₀ costs₀ doublings₀ parts i₀ limits 
 
 abbrev μ-loop : tie.MeasureT-loop
 μ-loop s header places maps limits₀ costs₀ doublings₀ parts i₀ limits costs doublings i = header .size - i
-
-parts-requires : tie.Need-parts-requires Inv-loop μ-loop
-parts-requires c κs = header-gap (λ i. c .shared-slice-known .given i .fits) (c .before .pre)
 
 loop-holds : tie.Need-loop-holds Inv-loop μ-loop
 loop-holds c = filling-starts (λ i. c .before .before .before .before .shared-slice-known .given i .fits) (c .before .before .before .before .before .pre)
@@ -31,8 +28,7 @@ element-copy-out-steps-at c = omega (arith, size-high (c .before .before .before
 steps-at-requires : tie.Need-steps-at-requires Inv-loop μ-loop
 steps-at-requires c κs =
     let l = c .before .before .before .before in
-    let in-range = rw (← l .before .before .before .before .parts .ensures) at (gap-in-range (l .loop .inv .index)) in
-    (in-range, tone-in-range (l .loop .inv .index) _ (c .before .before .if1 .taken))
+    rw (l .before .before .before .before .parts .ensures) (tone-in-range (l .loop .inv .index) _ (c .before .before .if1 .taken))
 
 element-write-limits : tie.Need-element-write-limits Inv-loop μ-loop
 element-write-limits c = omega (arith, size-high (c .before .before .before .before .before .loop .inv .index))
@@ -66,7 +62,7 @@ fill-arrays-spec =
     (tie.spec
     Inv-loop
     μ-loop
-    parts-requires
+    (λ c κs. search needs)
     loop-holds
     (λ c. search needs)
     cast-tone

@@ -15,7 +15,7 @@ returns-2 c =
 steps-of-requires : tie.Need-steps-of-requires
 steps-of-requires c κs =
     let a = c .before .before .before .before in
-    (a .pre .0, rw (c .tone-at .ensures) (rw (entry-there (a .args .s .now) (a .args .place) (c .before .if2 .left)) at (a .pre .1)))
+    rw (c .tone-at .ensures) (rw (entry-there (a .args .s .now) (a .args .place) (c .before .if2 .left)) at (a .pre))
 
 returns-3 : tie.Need-returns-3
 returns-3 c =

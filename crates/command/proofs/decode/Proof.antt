@@ -35,7 +35,7 @@ returns-3 c =
 returns-4 : tie.Need-returns-4
 returns-4 c =
     let short = c .before .before .before .before .before .if1 .left in
-    rw (c .row-at .ensures) (sym (command-at _ _ _ _ _ short ∙ row-there _ _ _ _ _ (c .before .before .before .before .if2 .left) short (allowed (c .before))))
+    rw (c .row-at .ensures) (sym (command-at _ _ _ _ _ short ∙ row-there _ _ _ _ _ (c .before .before .before .before .if2 .left) (allowed (c .before))))
 
 pub decode-spec : {M : Type 1} → statement M
 decode-spec =

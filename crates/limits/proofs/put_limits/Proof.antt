@@ -2,7 +2,7 @@
 use Prim.Native.Nat.{_-_}
 use native.Mathlib.Omega.{arith}
 use borrow.Author.Needs.{needs}
-use Rattle.arrays.proofs.Indexed.{header-gap, size-high, gap-in-range, tone-in-range}
+use Rattle.arrays.proofs.Indexed.{size-high, tone-in-range}
 use Rattle.limits.proofs.Bytes.{WritingOf, writing-starts, written-limit, written-limits}
 use Rattle.limits.proofs.put_limits.Statement.{statement}
 use Rattle.limits.proofs.put_limits.Tie as tie
@@ -12,9 +12,6 @@ Inv-loop out₀ s header places maps parts i₀ out i = WritingOf s header place
 
 abbrev μ-loop : tie.MeasureT-loop
 μ-loop out₀ s header places maps parts i₀ out i = header .size - i
-
-parts-requires : tie.Need-parts-requires Inv-loop μ-loop
-parts-requires c κs = header-gap (λ i. c .shared-slice-known .given i .fits) (c .before .before .pre .0)
 
 loop-holds : tie.Need-loop-holds Inv-loop μ-loop
 loop-holds c =
@@ -33,8 +30,7 @@ element-copy-out-steps-at c = omega (arith, size-high (c .before .before .before
 steps-at-requires : tie.Need-steps-at-requires Inv-loop μ-loop
 steps-at-requires c κs =
     let l = c .before .before .before .before in
-    let in-range = rw (← l .before .parts .ensures) at (gap-in-range (l .loop .inv .index)) in
-    (in-range, tone-in-range (l .loop .inv .index) _ (c .before .before .if1 .taken))
+    rw (l .before .parts .ensures) (tone-in-range (l .loop .inv .index) _ (c .before .before .if1 .taken))
 
 mul-put-limit : tie.Need-mul-put-limit Inv-loop μ-loop
 mul-put-limit c = record { fits = omega (arith, size-high (c .before .before .before .before .before .before .before .loop .inv .index)) }
@@ -71,7 +67,7 @@ put-limits-spec =
     (tie.spec
     Inv-loop
     μ-loop
-    parts-requires
+    (λ c κs. search needs)
     loop-holds
     (λ c. search needs)
     cast-tone

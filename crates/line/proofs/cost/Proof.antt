@@ -1,48 +1,50 @@
--- `line::cost` meets its contract: the ceiling is in the range of a cost, which fits 32 bits. Assumes nothing.
-use mathlib.Core.Path.{refl}
-use native.Mathlib.Omega.{arith}
-use Rattle.line.specs.Tone.{cost}
-use Rattle.line.proofs.Ceiling.{product-high, cost-range}
+-- `line::cost` meets its contract. Assumes nothing.
+use mathlib.Core.Path.{sym, ap, _∙_}
 use borrow.Author.Needs.{needs}
+use Rattle.line.specs.Tone.{kindCost}
+use Rattle.line.proofs.Costs.{reading-granted}
 use Rattle.line.proofs.cost.Statement.{statement}
 use Rattle.line.proofs.cost.Tie as tie
 
-mul-top : tie.Need-mul-top
-mul-top c = let a = c .before .before in rw (c .before .carried .ensures) (record { fits = omega (arith, product-high (a .args .gap) (a .args .tone) (a .pre .0) (a .pre .1)) })
+whole-cost-requires : tie.Need-whole-cost-requires
+whole-cost-requires c κs = rw (c .before .kind .given .1) at (c .before .before .before .pre .kind)
 
-sub-result : tie.Need-sub-result
-sub-result c = rw (c .before .before .carried .ensures) (omega (arith, c .before .before .before .pre .1 .gain-low))
+whole-cost-requires-2 : tie.Need-whole-cost-requires-2
+whole-cost-requires-2 c κs = rw (c .before .kind2 .given .1) at (c .before .before .before .pre .kind)
 
-add-result : tie.Need-add-result
-add-result c = let a = c .before .before .before in rw (c .before .before .carried .ensures) (record { fits = omega (arith, product-high (a .args .gap) (a .args .tone) (a .pre .0) (a .pre .1), a .pre .1 .gain-high) })
-
-div-result : tie.Need-div-result
-div-result c = rw (c .before .before .carried .ensures) (omega (arith, c .before .before .before .pre .1 .gain-low))
-
-cast-result : tie.Need-cast-result
-unfolding cost
-cast-result c =
-    let a = c .before .before .before in
-    let range = cost-range (a .args .gap) (a .args .tone) (a .pre .0) (a .pre .1) in
-    rw (c .before .before .carried .ensures) (omega (arith, range .high))
+cost-of-requires : tie.Need-cost-of-requires
+cost-of-requires c κs = (rw (c .before .kind3 .given .1) at (c .before .before .before .pre .kind)) .usable
 
 returns : tie.Need-returns
-unfolding cost
+unfolding kindCost
 returns c =
-    let a = c .before .before .before in
-    rw (c .before .before .carried .ensures) (refl, cost-range (a .args .gap) (a .args .tone) (a .pre .0) (a .pre .1))
+    let same = c .whole-cost .ensures ∙ sym (ap (kindCost _) (c .before .before .kind .given .1)) in
+    (same, rw same (c .before .before .before .before .pre .cost))
+
+returns-2 : tie.Need-returns-2
+unfolding kindCost
+returns-2 c =
+    let same = c .whole-cost2 .ensures ∙ sym (ap (kindCost _) (c .before .before .kind2 .given .1)) in
+    (same, rw same (c .before .before .before .before .pre .cost))
+
+returns-3 : tie.Need-returns-3
+unfolding kindCost
+returns-3 c =
+    let kind = c .before .before .kind3 .given .1 in
+    let pre = c .before .before .before .before .pre in
+    let same = c .cost-of .ensures ∙ reading-granted _ _ (rw kind at (pre .kind)) (rw kind at (pre .cost)) ∙ sym (ap (kindCost _) kind) in
+    (same, rw same (pre .cost))
 
 pub cost-spec : {M : Type 1} → statement M
 cost-spec =
     tie.close
     (tie.spec
-    (λ c κs. search needs)
     (λ c. search needs)
-    mul-top
+    whole-cost-requires
     (λ c. search needs)
+    whole-cost-requires-2
     (λ c. search needs)
-    sub-result
-    add-result
-    div-result
-    cast-result
-    returns)
+    cost-of-requires
+    returns
+    returns-2
+    returns-3)

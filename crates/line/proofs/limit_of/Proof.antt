@@ -9,17 +9,17 @@ use Rattle.line.proofs.limit_of.Statement.{statement}
 use Rattle.line.proofs.limit_of.Tie as tie
 
 abbrev Inv-loop : tie.InvT-loop
-Inv-loop cost n cap shift first bits₀ tries₀ power₀ bits tries power = Between cost n shift bits tries power
+Inv-loop cost bounds cap shift first bits₀ tries₀ power₀ bits tries power = Between cost bounds shift bits tries power
 
 abbrev μ-loop : tie.MeasureT-loop
-μ-loop cost n cap shift first bits₀ tries₀ power₀ bits tries power = cap - bits
+μ-loop cost bounds cap shift first bits₀ tries₀ power₀ bits tries power = cap - bits
 
 searched : (c : tie.After-doublings Inv-loop μ-loop)
-    → Searched (c .before .before .args .tone) (c .before .before .args .cost) (c .before .carried .result) (c .doublings .result)
+    → Searched (c .before .before .args .tone) (c .before .before .args .cost) (c .before .bounds-of .result) (c .doublings .result)
 searched c = record {
   cost = c .before .before .pre .0;
   in-range = c .before .before .pre .1;
-  numbers = c .before .carried .ensures;
+  bounds = c .before .bounds-of .ensures;
   shift = c .doublings .ensures;
 }
 

@@ -1,39 +1,40 @@
 -- `rows::bytes_of` meets its contract. Assumes nothing.
-use mathlib.Core.Path.{_≡_, ap}
 use native.Mathlib.Omega.{arith}
-use lib.Dec.{eqb}
-use Rattle.rows.specs.Rows.{width}
-use Rattle.rows.proofs.Judging.{tone-width, tone-row, end-row}
+use Rattle.rows.proofs.Judging.{end-row}
 use Rattle.rows.proofs.bytes_of.Statement.{statement}
 use Rattle.rows.proofs.bytes_of.Tie as tie
 
 returns : tie.Need-returns
-returns c = rw (c .match .keys1)
+returns c = (rw (c .match .keys1), omega arith)
 
 returns-2 : tie.Need-returns-2
-returns-2 c = rw (c .match .keys2)
+returns-2 c = (rw (c .match .keys2), omega arith)
 
 returns-3 : tie.Need-returns-3
-returns-3 c = rw (c .match .keys3)
+returns-3 c = (rw (c .match .keys3), omega arith)
 
 returns-4 : tie.Need-returns-4
-returns-4 c = rw (c .match .keys4)
+returns-4 c = (rw (c .match .keys4), omega arith)
 
 returns-5 : tie.Need-returns-5
-returns-5 c = rw (c .match .keys5)
+returns-5 c = (rw (c .match .keys5), omega arith)
 
 returns-6 : tie.Need-returns-6
-returns-6 c =
-    let code = c .before .before .before .args .code in
-    let row = tone-row code (omega arith) (c .if2 .taken) in
-    omega (arith, ap (λ r. width (r .operands)) row, tone-width (eqb code 5))
+returns-6 c = (rw (c .match .keys6), omega arith)
 
 returns-7 : tie.Need-returns-7
-returns-7 c = let none : c .before .before .args .code ≡ 0 = omega (arith, c .before .match .rest) in rw none
+returns-7 c = (rw (c .match .keys7), omega arith)
 
 returns-8 : tie.Need-returns-8
-returns-8 c =
-    rw (end-row (c .before .before .before .args .code) (omega (arith, c .before .before .match .rest .0 .1)) (λ e. omega (arith, c .before .before .match .rest .1)))
+returns-8 c = (rw (c .match .keys8), omega arith)
+
+returns-9 : tie.Need-returns-9
+returns-9 c = (rw (c .match .keys9), omega arith)
+
+returns-10 : tie.Need-returns-10
+returns-10 c =
+    let other = c .match .rest in
+    (rw (end-row (c .before .args .code) (other .0 .0 .0 .0 .0 .0 .0 .0 .1) (other .0 .0 .0 .0 .0 .0 .0 .1) (other .0 .0 .0 .0 .0 .0 .1) (other .0 .0 .0 .0 .0 .1) (other .0 .0 .0 .0 .1) (other .0 .0 .0 .1) (other .0 .0 .1) (other .0 .1) (other .1)), omega arith)
 
 pub bytes-of-spec : {M : Type 1} → statement M
-bytes-of-spec = tie.close (tie.spec returns returns-2 returns-3 returns-4 returns-5 returns-6 returns-7 returns-8)
+bytes-of-spec = tie.close (tie.spec returns returns-2 returns-3 returns-4 returns-5 returns-6 returns-7 returns-8 returns-9 returns-10)

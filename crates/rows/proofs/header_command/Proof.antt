@@ -12,7 +12,7 @@ use Rattle.rows.proofs.header_command.Tie as tie
 -- the operand is there, and is read
 budget-read : (c : tie.After-number-at) → let a = c .before .before .before .args in c .number-at .result ≡ number (a .s .now) (a .at + 1) 8
 budget-read c =
-    c .number-at .ensures .0 ∙ number-there _ _ 8 (omega arith) (rw (c .before .if1 .taken) at (c .before .before .before .pre .1 .1 .0))
+    c .number-at .ensures .0 ∙ number-there _ _ 8 (omega arith) (omega (arith, rw (c .before .if1 .taken) at (c .before .before .before .pre .1 .1 .0)))
 
 two-read : (c : tie.After-number-at2) → let a = c .before .before .before .args in c .number-at2 .result ≡ number (a .s .now) (a .at + 1) 2
 two-read c =

@@ -44,8 +44,8 @@ mul-decode c = record { fits = omega (arith, c .addressed .ensures .1) }
 element-copy-out-decode : tie.Need-element-copy-out-decode Inv-loop μ-loop
 element-copy-out-decode c = c .addressed .ensures .1
 
-cast-t23 : tie.Need-cast-t23 Inv-loop μ-loop
-cast-t23 c = let k = known (c .before .before .before) _ (c .before .enum-told .given .1) in record { fits = omega arith }
+cast-t22 : tie.Need-cast-t22 Inv-loop μ-loop
+cast-t22 c = let k = known (c .before .before .before) _ (c .before .enum-told .given .1) in record { fits = omega arith }
 
 returns : tie.Need-returns Inv-loop μ-loop
 returns c = on-more (c .before .before .before .before .before .before .loop .inv) (met (c .before .before .before)) (c .before .enum-told .given .1) (c .if1 .taken)
@@ -60,19 +60,22 @@ add-stage : tie.Need-add-stage Inv-loop μ-loop
 add-stage c = let k = known (c .before .before .before) _ (c .before .command2 .given .1) in record { fits = omega arith }
 
 cast-places : tie.Need-cast-places Inv-loop μ-loop
-cast-places c = let k = known (c .before .before .before) _ (c .before .command3 .given .1) in record { fits = omega arith }
+cast-places c = let k = known (c .before .before) _ (c .enum-told2 .given .1) in record { fits = omega arith }
+
+mul-places : tie.Need-mul-places Inv-loop μ-loop
+mul-places c = record { fits = omega (arith, c .before .before .before .before .addressed .ensures .1) }
 
 element-write-places : tie.Need-element-write-places Inv-loop μ-loop
-element-write-places c = let k = known (c .before .before .before) _ (c .before .command3 .given .1) in omega (arith, c .before .before .before .before .before .addressed .ensures .0, c .before .before .before .before .before .addressed .ensures .1)
+element-write-places c = c .before .before .before .before .addressed .ensures .1
 
 mul-maps : tie.Need-mul-maps Inv-loop μ-loop
-mul-maps c = let k = known (c .before .before .before) _ (c .before .command4 .given .1) in record { fits = omega arith }
+mul-maps c = let k = known (c .before .before .before) _ (c .before .command3 .given .1) in record { fits = omega arith }
 
 element-copy-out-maps : tie.Need-element-copy-out-maps Inv-loop μ-loop
-element-copy-out-maps c = let k = known (c .before .before .before) _ (c .before .command4 .given .1) in omega arith
+element-copy-out-maps c = let k = known (c .before .before .before) _ (c .before .command3 .given .1) in omega arith
 
 element-write-maps : tie.Need-element-write-maps Inv-loop μ-loop
-element-write-maps c = let k = known (c .before .before .before .before) _ (c .before .before .command4 .given .1) in omega arith
+element-write-maps c = let k = known (c .before .before .before .before) _ (c .before .before .command3 .given .1) in omega arith
 
 loop-less : tie.Need-loop-less Inv-loop μ-loop
 loop-less c = let k = known (c .before .before .before) _ (c .before .command2 .given .1) in omega arith
@@ -81,16 +84,18 @@ loop-again : tie.Need-loop-again Inv-loop μ-loop
 loop-again c = on-head (c .before .before .before .before .before .before .loop .inv) (met (c .before .before .before)) _ (c .before .command2 .given .1)
 
 loop-less-2 : tie.Need-loop-less-2 Inv-loop μ-loop
-loop-less-2 c = let k = known (c .before .before .before) _ (c .before .command3 .given .1) in omega arith
+loop-less-2 c = let k = known (c .before .before) _ (c .enum-told2 .given .1) in omega arith
 
 loop-again-2 : tie.Need-loop-again-2 Inv-loop μ-loop
-loop-again-2 c = on-describe (c .before .before .before .before .before .before .loop .inv) (met (c .before .before .before)) _ (omega (arith, c .before .before .before .before .before .addressed .ensures .0, c .before .before .before .before .before .addressed .ensures .1)) (c .before .command3 .given .1)
+loop-again-2 c =
+    let t = c .before .before .before .before .addressed .ensures in
+    on-describe (c .before .before .before .before .before .loop .inv) (met (c .before .before)) _ _ (t .0) (t .1) (c .enum-told2 .given .1)
 
 loop-less-3 : tie.Need-loop-less-3 Inv-loop μ-loop
-loop-less-3 c = let k = known (c .before .before .before .before) _ (c .before .before .command4 .given .1) in omega arith
+loop-less-3 c = let k = known (c .before .before .before .before) _ (c .before .before .command3 .given .1) in omega arith
 
 loop-again-3 : tie.Need-loop-again-3 Inv-loop μ-loop
-loop-again-3 c = on-silence (c .before .before .before .before .before .before .before .loop .inv) (met (c .before .before .before .before)) _ _ (search needs) (c .before .before .command4 .given .1)
+loop-again-3 c = on-silence (c .before .before .before .before .before .before .before .loop .inv) (met (c .before .before .before .before)) _ _ (search needs) (c .before .before .command3 .given .1)
 
 pub read-commands-spec : {M : Type 1} → statement M
 read-commands-spec =
@@ -104,7 +109,7 @@ read-commands-spec =
     element-copy-out-decode
     (λ c κs. search needs)
     (λ c. search needs)
-    cast-t23
+    cast-t22
     returns
     returns-2
     (λ c. search needs)
@@ -113,8 +118,7 @@ read-commands-spec =
     add-stage
     (λ c. search needs)
     cast-places
-    (λ c. search needs)
-    (λ c. search needs)
+    mul-places
     element-write-places
     (λ c. search needs)
     (λ c. search needs)

@@ -11,7 +11,7 @@ use Rattle.sheet.proofs.Writes.{refused-ends, short-ends, written-ends}
 use Rattle.tidyform.specs.Tidy.{tidy}
 use Rattle.tidyform.proofs.Length.{length-head}
 use Rattle.tidy.specs.declared.Tidied.the-variants.{Length}
-use Rattle.tidy.proofs.Index.{tidy-bytes}
+use Rattle.tidy.proofs.Index.{tones-inside, tidy-bytes}
 use Rattle.tidy.proofs.Outcomes.{tidy-writes}
 use borrow.Author.Needs.{needs}
 use Rattle.tidy.proofs.tidy.Statement.{statement}
@@ -36,12 +36,14 @@ counted c l e =
       bytes,
       length-head (accepted-at c .read2 .given .0 .0),
       c .before .before .before .before .gap-bytes .ensures .0,
-      c .before .before .tones-bytes .ensures .0 (k .before .args .s .now),
+      c .before .before .tones-bytes .ensures .0,
       c .words-bytes .ensures .0,
     )
 
 tones-bytes-requires : tie.Need-tones-bytes-requires
-tones-bytes-requires c κs = size-high (index (c .before .before .before)) (λ i. c .before .before .before .before .before .before .before .before .before .shared-slice-known .given i .fits)
+tones-bytes-requires c κs =
+    let x = index (c .before .before .before) in
+    (size-high x (λ i. c .before .before .before .before .before .before .before .before .before .shared-slice-known .given i .fits), tones-inside x)
 
 returns : tie.Need-returns
 returns c =

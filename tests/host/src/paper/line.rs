@@ -1,6 +1,7 @@
 //! A tone's cost, power and limit, and the reading of a sheet.
 
 use super::gap::{Gap, MOST_TENTHS};
+use super::reading::{is_accepted, Reading};
 use super::{refuse, Refusal};
 
 pub const TONES: usize = 256;
@@ -14,12 +15,21 @@ pub enum Kind {
     Single,
 }
 
+/// What a tone's command says of its noise and gain. Which command it was belongs to
+/// the line.
+#[derive(Clone, Copy, Debug, PartialEq, Eq)]
+pub enum Given {
+    /// By 04 or 05.
+    Whole { noise: u16, gain: u16 },
+    /// By 09 or 0A: a pair tone.
+    Read(Reading),
+}
+
 /// A described tone.
 #[derive(Clone, Copy, Debug, PartialEq, Eq)]
 pub struct Tone {
     pub kind: Kind,
-    pub noise: u16,
-    pub gain: u16,
+    pub given: Given,
     pub cap: u8,
     pub mask: u64,
 }
@@ -39,6 +49,24 @@ pub struct Line {
 /// The smallest whole number not below gap × noise / (256 × gain).
 pub fn cost(gap: u64, noise: u16, gain: u16) -> u64 {
     (gap * u64::from(noise)).div_ceil(256 * u64::from(gain))
+}
+
+impl Tone {
+    /// The cost at a gap; a reading that has none there was refused with 13.
+    pub fn cost(&self, gap: u64) -> u64 {
+        match self.given {
+            Given::Whole { noise, gain } => cost(gap, noise, gain),
+            Given::Read(reading) => reading.cost(gap).expect("it was accepted"),
+        }
+    }
+
+    /// How many bytes its command has.
+    pub fn length(&self) -> usize {
+        match self.given {
+            Given::Whole { .. } => 15,
+            Given::Read(reading) => reading.length(),
+        }
+    }
 }
 
 pub fn power(kind: Kind, cost: u64, bits: u8) -> u64 {
@@ -104,9 +132,11 @@ fn operand(sheet: &[u8], at: usize, width: usize, low: u64, high: u64) -> Result
     Ok(operand)
 }
 
+/// How many bytes each command has, by its byte.
+const WIDTHS: [usize; 11] = [0, 3, 3, 9, 15, 15, 6, 1, 2, 19, 15];
+
 /// The command at a place, if it is allowed and its operands are there.
 fn command(sheet: &[u8], at: usize, allowed: impl Fn(u8) -> bool) -> Result<u8, Refusal> {
-    const WIDTHS: [usize; 9] = [0, 3, 3, 9, 15, 15, 6, 1, 2];
     if at >= sheet.len() {
         return refuse(2, sheet.len());
     }
@@ -129,22 +159,49 @@ fn read_gap(sheet: &[u8], at: usize) -> Result<Gap, Refusal> {
     }
 }
 
-fn read_tone(line: &mut Line, sheet: &[u8], at: usize, kind: Kind) -> Result<(), Refusal> {
-    let tone = usize::from(sheet[at + 1]);
-    if tone >= line.tones {
+/// The bits of the float at a place, if it is finite and above zero.
+fn float(sheet: &[u8], at: usize) -> Result<u32, Refusal> {
+    let bits = number(sheet, at, 4) as u32;
+    if !is_accepted(bits) {
+        return refuse(12, at);
+    }
+    Ok(bits)
+}
+
+/// What 09 or 0A says from its first float on, with refusal 13 straight after the last.
+fn read_reading(gap: Gap, sheet: &[u8], at: usize, command: u8) -> Result<Reading, Refusal> {
+    let reading = match command {
+        9 => Reading::NoiseAndGain(float(sheet, at)?, float(sheet, at + 4)?),
+        _ => Reading::Ratio(float(sheet, at)?),
+    };
+    match reading.cost(gap.value()) {
+        Some(_) => Ok(reading),
+        None => refuse(13, at),
+    }
+}
+
+/// Command 04, 05, 09 or 0A: cap and mask are its last nine bytes.
+fn read_tone(line: &mut Line, sheet: &[u8], at: usize, command: u8) -> Result<(), Refusal> {
+    let number = usize::from(sheet[at + 1]);
+    if number >= line.tones {
         return refuse(5, at + 1);
     }
-    if line.described[tone].is_some() {
+    if line.described[number].is_some() {
         return refuse(6, at + 1);
     }
-    let most = if kind == Kind::Pair { 15 } else { 7 };
-    line.described[tone] = Some(Tone {
-        kind,
-        noise: operand(sheet, at + 2, 2, 1, 65_535)? as u16,
-        gain: operand(sheet, at + 4, 2, 1, 65_535)? as u16,
-        cap: operand(sheet, at + 6, 1, 0, most)? as u8,
-        mask: operand(sheet, at + 7, 8, 0, LARGEST_POWER)?,
-    });
+    let given = match command {
+        4 | 5 => Given::Whole {
+            noise: operand(sheet, at + 2, 2, 1, 65_535)? as u16,
+            gain: operand(sheet, at + 4, 2, 1, 65_535)? as u16,
+        },
+        _ => Given::Read(read_reading(line.gap, sheet, at + 2, command)?),
+    };
+    let (kind, most) = if command == 5 { (Kind::Single, 7) } else { (Kind::Pair, 15) };
+    let mut tone = Tone { kind, given, cap: 0, mask: 0 };
+    let end = at + tone.length();
+    tone.cap = operand(sheet, end - 9, 1, 0, most)? as u8;
+    tone.mask = operand(sheet, end - 8, 8, 0, LARGEST_POWER)?;
+    line.described[number] = Some(tone);
     Ok(())
 }
 
@@ -159,7 +216,7 @@ fn read_silence(line: &mut Line, sheet: &[u8], at: usize) -> Result<(), Refusal>
     Ok(())
 }
 
-/// The line of a sheet: refusals 1 to 7.
+/// The line of a sheet: refusals 1 to 7, 12 and 13.
 pub fn read(sheet: &[u8]) -> Result<Line, Refusal> {
     if sheet.len() > LARGEST_SHEET {
         return refuse(1, 0);
@@ -173,14 +230,14 @@ pub fn read(sheet: &[u8]) -> Result<Line, Refusal> {
     let mut line = Line { tones, gap, budget, described: [None; TONES], silenced: [0; 8] };
     at += 9;
     loop {
-        match command(sheet, at, |byte| (4..=7).contains(&byte))? {
-            4 => read_tone(&mut line, sheet, at, Kind::Pair)?,
-            5 => read_tone(&mut line, sheet, at, Kind::Single)?,
+        let command = command(sheet, at, |byte| matches!(byte, 4..=7 | 9 | 10))?;
+        match command {
             6 => read_silence(&mut line, sheet, at)?,
-            _ if at + 1 < sheet.len() => return refuse(7, at + 1),
-            _ => return Ok(line),
+            7 if at + 1 < sheet.len() => return refuse(7, at + 1),
+            7 => return Ok(line),
+            _ => read_tone(&mut line, sheet, at, command)?,
         }
-        at += if sheet[at] == 6 { 6 } else { 15 };
+        at += WIDTHS[usize::from(command)];
     }
 }
 
@@ -193,7 +250,7 @@ impl Line {
     pub fn limit(&self, number: usize) -> (u8, SetBy) {
         match &self.described[number] {
             Some(tone) if !self.is_silenced(number) => {
-                let cost = cost(self.gap.value(), tone.noise, tone.gain);
+                let cost = tone.cost(self.gap.value());
                 let limit = limit(tone, cost);
                 (limit, set_by(tone, cost, limit))
             }

@@ -1,6 +1,6 @@
 //! A table while it is loaded or re-fitted.
 
-use super::line::{cost, limit, power, Kind, Line, TONES};
+use super::line::{limit, power, Kind, Line, TONES};
 use super::{refuse, Refusal, BYTES_A_TONE};
 
 /// A step: its size, then its tone; compared in that order.
@@ -43,7 +43,7 @@ impl Running {
         for (number, tone) in line.described[..line.tones].iter().enumerate() {
             let Some(tone) = tone else { continue };
             run.kind[number] = tone.kind;
-            run.cost[number] = cost(gap, tone.noise, tone.gain);
+            run.cost[number] = tone.cost(gap);
             if !line.is_silenced(number) {
                 run.limit[number] = limit(tone, run.cost[number]);
             }

@@ -1,6 +1,7 @@
 //! The independent loader on the papers' own cases, and by exhaustion.
 
 use super::line::{cost, limit, read, set_by, Kind, SetBy, Tone, LARGEST_POWER};
+use super::reading::LARGEST_COST;
 use super::run::{Running, Step};
 use super::*;
 use crate::random::Random;
@@ -75,6 +76,11 @@ fn silent_tones() {
     assert_eq!(limits_of(&undescribed), due);
 }
 
+/// A pair tone whose cost is 3 at a gap of 256.
+fn pair_of_3(cap: u8, mask: u64) -> Tone {
+    Tone { kind: Kind::Pair, given: Given::Whole { noise: 3, gain: 1 }, cap, mask }
+}
+
 /// A pair tone of cost 3: its powers are 3, 9, 21.
 #[test]
 fn cap_or_mask() {
@@ -89,7 +95,7 @@ fn cap_or_mask() {
         (2, 21, (2, SetBy::Cap)),
         (3, 9, (2, SetBy::Mask)),
     ] {
-        let tone = Tone { kind: Kind::Pair, noise: 3, gain: 1, cap, mask };
+        let tone = pair_of_3(cap, mask);
         let limit = limit(&tone, 3);
         assert_eq!((limit, set_by(&tone, 3, limit)), due, "cap {cap}, mask {mask}");
     }
@@ -167,7 +173,7 @@ fn costs_and_limits() {
     assert_eq!(cost(256, 1, 65_535), 1);
     assert_eq!(cost(65_535, 65_535, 1), 16_776_705);
     for (mask, bits) in [(2, 0), (3, 1), (8, 1), (9, 2)] {
-        let tone = Tone { kind: Kind::Pair, noise: 3, gain: 1, cap: 15, mask };
+        let tone = pair_of_3(15, mask);
         assert_eq!(limit(&tone, 3), bits);
     }
 }
@@ -218,6 +224,192 @@ fn tenths_refused() {
     for place in [15, 30, 60] {
         let among = [&sheet[..place], &[8, 100], &sheet[place..]].concat();
         assert_eq!(refusal(&among), (3, place));
+    }
+}
+
+/// 09 or 0A of a tone, with its floats, cap and mask.
+fn reading(number: u8, floats: &[u32], cap: u8, mask: u64) -> Vec<u8> {
+    let mut bytes = vec![if floats.len() == 2 { 9 } else { 10 }, number];
+    floats.iter().for_each(|float| bytes.extend(float.to_be_bytes()));
+    bytes.push(cap);
+    bytes.extend(mask.to_be_bytes());
+    bytes
+}
+
+fn bits(floats: &[f32]) -> Vec<u32> {
+    floats.iter().map(|float| float.to_bits()).collect()
+}
+
+/// The sheet of document 01 with other commands for its first tones, of which there are
+/// as many, and another gap.
+fn with_tones(budget: u64, gap: u16, tones: &[Vec<u8>]) -> Vec<u8> {
+    let [high, low] = gap.to_be_bytes();
+    let sheet = with_gap(budget, &[2, high, low]);
+    [&sheet[..15], &tones.concat(), &sheet[15 + 15 * tones.len()..]].concat()
+}
+
+/// The sample's first tone by 04, 09 and 0A: the loading is the same, and what a check
+/// and the limits say of it.
+#[test]
+fn readings_load_as_their_ratio() {
+    let tones = [
+        reading(0, &bits(&[3.0, 1.0]), 15, 100),
+        reading(0, &bits(&[1.5, 0.5]), 15, 100),
+        reading(0, &bits(&[3.0 * f32::MIN_POSITIVE, f32::MIN_POSITIVE]), 15, 100),
+        // Both subnormal.
+        reading(0, &[9, 3], 15, 100),
+        reading(0, &bits(&[3.0]), 15, 100),
+        // Ratios above 2 and below 3 cost 3 too.
+        reading(0, &bits(&[2.000_001]), 15, 100),
+        reading(0, &bits(&[5.0, 2.0]), 15, 100),
+    ];
+    for tone in tones {
+        for budget in [0, 3, 38, 39, 51, 170, 171, LARGEST_POWER] {
+            let (sheet, whole) =
+                (with_tones(budget, 256, std::slice::from_ref(&tone)), sample(budget));
+            assert_eq!(printed(&sheet), printed(&whole));
+            assert_ne!(read(&sheet), read(&whole));
+            let counts = |sheet| outcome(|_, answer| check(sheet, answer));
+            assert_eq!(counts(&sheet), counts(&whole));
+        }
+    }
+}
+
+/// A reading whose ratio is next to nothing, or 1, costs 1: its powers are 1, 3, 7.
+#[test]
+fn smallest_readings() {
+    for floats in [&[1][..], &[1, 0x7f7f_ffff], &[1, 1], &[0x3f80_0000], &[0x0080_0000]] {
+        let sheet = with_tones(7, 256, &[reading(0, floats, 3, 7)]);
+        assert_eq!(limits_of(&sheet)[0], (3, SetBy::Cap));
+        let run = outcome(|table, answer| load_most(&sheet, table, answer));
+        assert_eq!(run, (0, [2, 0, 1], [3, 0, 3], [3, 6, 0]));
+    }
+}
+
+/// The tidy form has the command that the sheet had, and the floats' bits, among the
+/// other tones by number.
+#[test]
+fn tidying_keeps_readings() {
+    let both = reading(0, &[0x4049_0fdb, 0x3f80_0001], 15, 100);
+    let ratio = reading(1, &[1], 2, 100);
+    let sheet = with_tones(39, 256, &[both, ratio]);
+    let falling = [&sheet[..15], &sheet[49..64], &sheet[34..49], &sheet[15..34], &[7]].concat();
+    for untidy in [&sheet, &falling] {
+        let (mut written, mut answer) = (vec![0; sheet.len()], [0; 24]);
+        assert_eq!(tidy(untidy, &mut written, &mut answer), 0);
+        assert_eq!((&written, value(&answer)), (&sheet, sheet.len() as u64));
+        written.pop();
+        assert_eq!(tidy(untidy, &mut written, &mut answer), 8 << 32);
+    }
+}
+
+/// 12 at the first float that is at fault, 13 at the command's first float, before cap
+/// and mask.
+#[test]
+fn readings_refused() {
+    const ONE: u32 = 0x3f80_0000;
+    const LARGEST: u32 = 0x7f7f_ffff;
+    let over = (LARGEST_COST as f32 + 1.0).to_bits();
+    for (floats, cap, mask, due) in [
+        (&[0, ONE][..], 16, 1 << 48, (12, 17)),
+        (&[0x8000_0000, 0], 15, 0, (12, 17)),
+        (&[ONE, 0x7f80_0000], 16, 1 << 48, (12, 21)),
+        (&[LARGEST, 0], 15, 0, (12, 21)),
+        (&[0x7fc0_0000, LARGEST], 15, 0, (12, 17)),
+        (&[0xbf80_0000, 0xbf80_0000], 15, 0, (12, 17)),
+        (&[LARGEST, 1], 16, 1 << 48, (13, 17)),
+        (&[over, ONE], 15, 1 << 48, (13, 17)),
+        (&[1, LARGEST], 16, 1 << 48, (4, 25)),
+        (&[1, LARGEST], 15, 1 << 48, (4, 26)),
+        (&[1, LARGEST], 15, 1 << 47, (0, 0)),
+        (&[0], 16, 1 << 48, (12, 17)),
+        (&[0xff80_0000], 15, 0, (12, 17)),
+        (&[0x7f80_0001], 15, 0, (12, 17)),
+        (&[over], 16, 1 << 48, (13, 17)),
+        (&[over - 1], 16, 1 << 48, (4, 21)),
+        (&[over - 1], 15, 1 << 48, (4, 22)),
+        (&[over - 1], 15, 1 << 47, (0, 0)),
+    ] {
+        let sheet = with_tones(39, 256, &[reading(0, floats, cap, mask)]);
+        assert_eq!(refusal(&sheet), due, "{floats:08x?}, cap {cap}, mask {mask}");
+    }
+}
+
+/// The cost is judged at the sheet's own gap, which may be in tenths of a decibel.
+#[test]
+fn readings_refused_by_their_gap() {
+    for (gap, floats, due) in [
+        (65_535, [65_535.0], (0, 0)),
+        (65_535, [65_535.004], (13, 17)),
+        (256, [65_535.004], (0, 0)),
+        (256, [16_776_706.0], (13, 17)),
+    ] {
+        let sheet = with_tones(39, gap, &[reading(0, &bits(&floats), 15, 100)]);
+        assert_eq!(refusal(&sheet), due, "{floats:?} at gap {gap}");
+    }
+    let sheet = with_gap(39, &[8, 100]);
+    for (float, due) in [(1_677_670.5, (0, 0)), (1_677_670.6, (13, 16))] {
+        let tone = reading(0, &bits(&[float]), 15, 100);
+        let sheet = [&sheet[..14], &tone, &sheet[29..]].concat();
+        assert_eq!(refusal(&sheet), due, "{float}");
+    }
+}
+
+/// 5 and then 6 at the tone, before its floats; a tone is described once, whichever its
+/// commands are.
+#[test]
+fn readings_of_a_tone() {
+    let sheet = sample(39);
+    let among = |place: usize, tone: &[u8]| [&sheet[..place], tone, &sheet[place..]].concat();
+    for floats in [&[0, 0][..], &[0x7f7f_ffff, 1], &[0]] {
+        assert_eq!(refusal(&among(15, &reading(3, floats, 16, 0))), (5, 16));
+        assert_eq!(refusal(&among(60, &reading(2, floats, 16, 0))), (6, 61));
+    }
+    for first in [&[0x3f80_0000][..], &[0x3f80_0000, 0x3f80_0000]] {
+        let first = reading(1, first, 2, 0);
+        // The sample's own tone 1 comes second.
+        assert_eq!(refusal(&among(15, &first)), (6, 15 + first.len() + 16));
+        for second in [&[0][..], &[0, 0]] {
+            let twice = [&first[..], &reading(1, second, 2, 0)].concat();
+            assert_eq!(refusal(&among(15, &twice)), (6, 16 + first.len()));
+        }
+    }
+}
+
+/// 09 and 0A stand where 04 stands and nowhere else, and have all their bytes.
+#[test]
+fn places_of_readings() {
+    let sheet = sample(39);
+    for floats in [&[0, 0][..], &[0]] {
+        let tone = reading(0, floats, 16, 1 << 48);
+        for place in [0, 3, 6] {
+            let early = [&sheet[..place], &tone, &sheet[place..]].concat();
+            assert_eq!(refusal(&early), (3, place));
+        }
+        for length in 1..tone.len() {
+            let cut = [&sheet[..15], &tone[..length]].concat();
+            assert_eq!(refusal(&cut), (2, 15 + length));
+        }
+        assert_eq!(refusal(&[&sheet[..], &tone].concat()), (7, 61));
+    }
+    assert_eq!(refusal(&[&sheet[..15], &[11]].concat()), (3, 15));
+}
+
+/// 214 tones of 09 fit, and 256 of 0A.
+#[test]
+fn full_lines_of_readings() {
+    for (floats, tones, bits_due) in [(&[3.0, 2.0][..], 214, 235), (&[1.5], 256, 256)] {
+        let mut sheet = vec![1, 1, 0, 2, 1, 0, 3, 0, 0, 0, 0, 0, 0, 2, 0];
+        for number in 0..tones {
+            sheet.extend(reading(number as u8, &bits(floats), 15, 100));
+        }
+        sheet.push(7);
+        let line = read(&sheet).unwrap();
+        assert_eq!((line.count_described(), tidy_length(&line)), (tones, sheet.len()));
+        let mut run = Running::nothing(&line);
+        while run.add() {}
+        // Each costs 2. All get a bit, and at 4 more some a second, up to 512.
+        assert_eq!((run.total_bits, run.total_power), (bits_due, 512));
     }
 }
 
