@@ -1,4 +1,4 @@
--- Powers and steps that grow by a power of 2, for either kind. The kinds are told apart in `power-shift` and in the bounds on doublings and shifts.
+-- Powers and steps that grow by a power of 2, for every kind. The kinds are told apart in `power-shift` and in the bounds on doublings and shifts.
 -- Assumes nothing.
 use mathlib.Core.Path.{_≡_, refl, ap, _∙_}
 use Prim.Native.Nat.{ℕ, zero, suc, _+_, _-_, _*_, _^_, _≤_, _<_}
@@ -86,7 +86,7 @@ module _ (w d b : ℕ) where
       let s : 1 ≤ h * x = mul-le-mul {n₁ = 1} {m₁ = 1} (omega arith) xl in
       rw pow-next (omega (arith, mul-le-mul-left (h * x) two))
 
--- ---- for either kind
+-- ---- for every kind
 
 pub power-is : (t : Tone) (w b : ℕ) → power t w b ≡ w * 2 ^ (doublings t * b) - w
 power-is t w b = power-shift (t .kind) w b
@@ -99,7 +99,7 @@ power-grows t w b =
     let l : doublings t * b ≤ doublings t * suc b = omega (arith, mul-suc (doublings t) b) in
     rw (power-is t w (suc b), power-is t w b) (omega (arith, mul-le-mul-left w (pow-mono l)))
 
--- the steps of a tone of either kind rise strictly
+-- the steps of a tone of every kind rise strictly
 pub step-rises : (t : Tone) (w b : ℕ) → 1 ≤ w → step t w b < step t w (suc b)
 step-rises t w b l =
     rw (step-is t w b, step-is t w (suc b)) (steps-rise w (doublings t) b l (doublings-low (t .kind)))

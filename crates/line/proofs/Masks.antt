@@ -1,4 +1,4 @@
--- The power of bits within the limit is within the mask, for a tone of either kind, described or not, silenced or not.
+-- The power of bits within the limit is within the mask, for a tone of every kind, described or not, silenced or not.
 -- Assumes nothing.
 use mathlib.Core.Bool.{Bool, true, false}
 use mathlib.Core.Path.{_≡_}

@@ -27,7 +27,7 @@ kindBounds (Read n) = record { cap = n .cap; mask = n .mask }
 abbrev pub boundsOf : Tone → Bounds
 boundsOf t = kindBounds (t .kind)
 
--- a tone of either kind, with these numbers
+-- a tone of either kind with whole numbers
 abbrev pub kindOf : (single : Bool) → Numbers → Kind
 kindOf false = Pair
 kindOf true = Single

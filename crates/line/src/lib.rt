@@ -10,7 +10,7 @@ use readings::Reading;
 use sizes::PAIR_CAP;
 use sizes::SINGLE_CAP;
 
-// What a tone of either kind carries: noise, gain, cap and mask.
+// What a tone with whole numbers carries, of either kind: noise, gain, cap and mask.
 pub struct Numbers {
     pub noise: u16,
     pub gain: u16,

@@ -16,11 +16,11 @@ use lib.Bits.{bitOr}
 use lib.Dec.{ltb, eqb}
 use lib.ListN.{length, getD, set, length-set, length-replicate}
 use lib.Seq.{set-out}
-use Rattle.sizes.specs.Sizes.{mostTones, mostWords, wordTones, wordsOf, longestSheet, mostPower, pairCap}
+use Rattle.sizes.specs.Sizes.{mostTones, mostWords, wordTones, wordsOf, longestSheet, mostPower, pairCap, toneCommand, levelsCommand, ratioCommand}
 use Rattle.lists.proofs.Tests.{by-test}
 use Rattle.lists.proofs.Stores.{all-same, after-store}
-use Rattle.bigendian.specs.Number.{number, numberAt}
-use Rattle.bigendian.proofs.Numbers.{number-one, number-lt, number-from}
+use Rattle.bigendian.specs.Number.{number}
+use Rattle.bigendian.proofs.Numbers.{byte-from, number-lt, number-from}
 use Rattle.silence.specs.Map.{bit, namesBeyond}
 use Rattle.silence.proofs.Maps.{beyond-clear, joined-bit, joined-lt}
 use Rattle.gaps.specs.Gap.{gapUnit, mostGap, mostTenths, PartsInRange, GapInRange}
@@ -151,13 +151,6 @@ module _ (s : List ℕ) (bytes : Bytes s) where
   Along at (suc (suc (suc n))) l = Sound l
 
   module _ (at : ℕ) (l : Line) where
-    -- what the operands of a tone's command say is what is read back at its place
-    there : (bytes k w place : ℕ) → at + bytes ≤ length s → w ≤ 8 → k + w ≤ bytes → place ≡ at + k → numberAt s (at + k) w ≡ number s place w
-    there = number-from s at
-
-    byte-there : (k place : ℕ) → place ≡ at + k → number s place 1 ≡ getD s (at + k) 0
-    byte-there k place e = number-one s place ∙ ap (λ (q : ℕ). getD s q 0) e
-
     -- 04 and 05
     numbers-lead : (n code : ℕ) (single : Bool) → kindAt code s at ≡ kindOf single (numbersAt s at) → Sound l
         → Leads today s Along Sound at (suc (suc (suc n))) l (describing code (numbers single))
@@ -166,10 +159,10 @@ module _ (s : List ℕ) (bytes : Bytes s) where
         let gain = in-within (number s (at + 1 + 1 + 2) 2) 1 65535 _ _ (p .1 .1 .0) in
         let cap = in-within (number s (at + 1 + 1 + 2 + 2) 1) 0 (mostCap single) _ _ (p .1 .1 .1 .0) in
         let mask = in-within (number s (at + 1 + 1 + 2 + 2 + 1) 8) 0 mostPower _ _ (p .1 .1 .1 .1 .0) in
-        let noise-is = there 15 2 2 (at + 1 + 1) (omega arith) (omega arith) (omega arith) (omega arith) in
-        let gain-is = there 15 4 2 (at + 1 + 1 + 2) (omega arith) (omega arith) (omega arith) (omega arith) in
-        let cap-is = byte-there 6 (at + 1 + 1 + 2 + 2) (omega arith) in
-        let mask-is = there 15 7 8 (at + 1 + 1 + 2 + 2 + 1) (omega arith) (omega arith) (omega arith) (omega arith) in
+        let noise-is = number-from s at toneCommand 2 2 (at + 1 + 1) (omega arith) (omega arith) (omega arith) (omega arith) in
+        let gain-is = number-from s at toneCommand 4 2 (at + 1 + 1 + 2) (omega arith) (omega arith) (omega arith) (omega arith) in
+        let cap-is = byte-from s at 6 (at + 1 + 1 + 2 + 2) (omega arith) in
+        let mask-is = number-from s at toneCommand 7 8 (at + 1 + 1 + 2 + 2 + 1) (omega arith) (omega arith) (omega arith) (omega arith) in
         let range : NumbersInRange (numbersAt s at) = record { noise-low = omega arith; noise-high = omega arith; gain-low = omega arith; gain-high = omega arith } in
         describes s at _ l z
         (rw (is, kind) (numbers-in-range (gapOf l) single (numbersAt s at) (parts-in-range (l .gap) (z .in-range .gap)) range (omega arith) (omega arith)))
@@ -181,10 +174,10 @@ module _ (s : List ℕ) (bytes : Bytes s) where
         let gain = takes (isUsable (number s (at + 1 + 1 + 4) 4)) _ _ (p .1 .1 .0) in
         let cap = in-within (number s (at + 1 + 1 + 4 + 4) 1) 0 pairCap _ _ (p .1 .1 .1 .0) in
         let mask = in-within (number s (at + 1 + 1 + 4 + 4 + 1) 8) 0 mostPower _ _ (p .1 .1 .1 .1 .0) in
-        let noise-is = there 19 2 4 (at + 1 + 1) (omega arith) (omega arith) (omega arith) (omega arith) in
-        let gain-is = there 19 6 4 (at + 1 + 1 + 4) (omega arith) (omega arith) (omega arith) (omega arith) in
-        let cap-is = byte-there 10 (at + 1 + 1 + 4 + 4) (omega arith) in
-        let mask-is = there 19 11 8 (at + 1 + 1 + 4 + 4 + 1) (omega arith) (omega arith) (omega arith) (omega arith) in
+        let noise-is = number-from s at levelsCommand 2 4 (at + 1 + 1) (omega arith) (omega arith) (omega arith) (omega arith) in
+        let gain-is = number-from s at levelsCommand 6 4 (at + 1 + 1 + 4) (omega arith) (omega arith) (omega arith) (omega arith) in
+        let cap-is = byte-from s at 10 (at + 1 + 1 + 4 + 4) (omega arith) in
+        let mask-is = number-from s at levelsCommand 11 8 (at + 1 + 1 + 4 + 4 + 1) (omega arith) (omega arith) (omega arith) (omega arith) in
         let range = read-in-range (gapOf l) (levelsAt s at) (rw (noise-is, gain-is) (usable-float _ noise, usable-float _ (gain .0))) in
         describes s at _ l z
         (rw is (range (rw (noise-is, gain-is) (passes _ _ _ (gain .1) .0)) (omega arith) (omega arith)))
@@ -194,9 +187,9 @@ module _ (s : List ℕ) (bytes : Bytes s) where
         let float = takes (isUsable (number s (at + 1 + 1) 4)) _ _ (p .1 .0) in
         let cap = in-within (number s (at + 1 + 1 + 4) 1) 0 pairCap _ _ (p .1 .1 .0) in
         let mask = in-within (number s (at + 1 + 1 + 4 + 1) 8) 0 mostPower _ _ (p .1 .1 .1 .0) in
-        let float-is = there 15 2 4 (at + 1 + 1) (omega arith) (omega arith) (omega arith) (omega arith) in
-        let cap-is = byte-there 6 (at + 1 + 1 + 4) (omega arith) in
-        let mask-is = there 15 7 8 (at + 1 + 1 + 4 + 1) (omega arith) (omega arith) (omega arith) (omega arith) in
+        let float-is = number-from s at ratioCommand 2 4 (at + 1 + 1) (omega arith) (omega arith) (omega arith) (omega arith) in
+        let cap-is = byte-from s at 6 (at + 1 + 1 + 4) (omega arith) in
+        let mask-is = number-from s at ratioCommand 7 8 (at + 1 + 1 + 4 + 1) (omega arith) (omega arith) (omega arith) (omega arith) in
         describes s at _ l z
         (rw is (read-in-range (gapOf l) (ratioAt s at) (rw float-is (usable-float _ (float .0))) (rw float-is (passes _ _ _ (float .1) .0)) (omega arith) (omega arith)))
 

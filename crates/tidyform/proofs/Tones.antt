@@ -8,9 +8,9 @@ use Prim.Native.Nat.{ℕ, _+_, _^_, _≤_, _<_}
 use native.Mathlib.Omega.{arith}
 use lib.Ieee.{Float, binary32, toBits}
 use lib.ListN.{length, getD}
-use Rattle.sizes.specs.Sizes.{pairCap}
+use Rattle.sizes.specs.Sizes.{toneCommand, levelsCommand, ratioCommand}
 use Rattle.bigendian.specs.Number.{number, numberAt}
-use Rattle.bigendian.proofs.Numbers.{number-one, number-lt, number-from}
+use Rattle.bigendian.proofs.Numbers.{number-one, byte-from, number-lt, number-from}
 use Rattle.readings.specs.declared.Reading.{Reading}
 use Rattle.readings.specs.declared.Reading.the-variants.{Both, Ratio}
 use Rattle.readings.specs.Reading.{floatOf, FloatInRange, Usable}
@@ -30,20 +30,16 @@ use Rattle.tidyform.specs.Tidy.{readingRow, readingBits, kindRow, kindVa
 use Rattle.tidyform.proofs.Written.{Stand}
 
 module _ (s : List ℕ) (at : ℕ) where
-  -- a byte that is an operand, at its own place
-  byte-from : (k place : ℕ) → place ≡ at + k → getD s (at + k) 0 ≡ number s place 1
-  byte-from k place e = ap (λ (q : ℕ). getD s q 0) (sym e) ∙ sym (number-one s place)
-
   -- ---- from the operands to the tone
 
-  numbers-stand : (i : ℕ) (n : Numbers) (isSingle : Bool) → at + 15 ≤ length s
+  numbers-stand : (i : ℕ) (n : Numbers) (isSingle : Bool) → at + toneCommand ≤ length s
       → Stand s (at + 1) (toneNumber 1 ∷ numbers isSingle) (i ∷ n .noise ∷ n .gain ∷ n .cap ∷ n .mask ∷ []) → numbersAt s at ≡ n
   numbers-stand i n isSingle whole st =
       rw (
-        number-from s at 15 2 2 (at + 1 + 1) whole (omega arith) (omega arith) (omega arith) ∙ st .1 .0,
-        number-from s at 15 4 2 (at + 1 + 1 + 2) whole (omega arith) (omega arith) (omega arith) ∙ st .1 .1 .0,
-        byte-from 6 (at + 1 + 1 + 2 + 2) (omega arith) ∙ st .1 .1 .1 .0,
-        number-from s at 15 7 8 (at + 1 + 1 + 2 + 2 + 1) whole (omega arith) (omega arith) (omega arith) ∙ st .1 .1 .1 .1 .0,
+        number-from s at toneCommand 2 2 (at + 1 + 1) whole (omega arith) (omega arith) (omega arith) ∙ st .1 .0,
+        number-from s at toneCommand 4 2 (at + 1 + 1 + 2) whole (omega arith) (omega arith) (omega arith) ∙ st .1 .1 .0,
+        byte-from s at 6 (at + 1 + 1 + 2 + 2) (omega arith) ∙ st .1 .1 .1 .0,
+        number-from s at toneCommand 7 8 (at + 1 + 1 + 2 + 2 + 1) whole (omega arith) (omega arith) (omega arith) ∙ st .1 .1 .1 .1 .0,
       )
 
   float-stands : (x : Float) (bytes k place : ℕ) → FloatInRange x → at + bytes ≤ length s → k + 4 ≤ bytes → place ≡ at + k → number s place 4 ≡ toBits binary32 x
@@ -55,17 +51,17 @@ module _ (s : List ℕ) (at : ℕ) where
   read-stands i (Both l) c m u code whole st =
       rw (
         code,
-        float-stands (l .noise) 19 2 (at + 1 + 1) (u .0) (omega arith) (omega arith) (omega arith) (st .1 .0),
-        float-stands (l .gain) 19 6 (at + 1 + 1 + 4) (u .1) (omega arith) (omega arith) (omega arith) (st .1 .1 .0),
-        byte-from 10 (at + 1 + 1 + 4 + 4) (omega arith) ∙ st .1 .1 .1 .0,
-        number-from s at 19 11 8 (at + 1 + 1 + 4 + 4 + 1) (omega arith) (omega arith) (omega arith) (omega arith) ∙ st .1 .1 .1 .1 .0,
+        float-stands (l .noise) levelsCommand 2 (at + 1 + 1) (u .0) (omega arith) (omega arith) (omega arith) (st .1 .0),
+        float-stands (l .gain) levelsCommand 6 (at + 1 + 1 + 4) (u .1) (omega arith) (omega arith) (omega arith) (st .1 .1 .0),
+        byte-from s at 10 (at + 1 + 1 + 4 + 4) (omega arith) ∙ st .1 .1 .1 .0,
+        number-from s at levelsCommand 11 8 (at + 1 + 1 + 4 + 4 + 1) (omega arith) (omega arith) (omega arith) (omega arith) ∙ st .1 .1 .1 .1 .0,
       )
   read-stands i (Ratio x) c m u code whole st =
       rw (
         code,
-        float-stands x 15 2 (at + 1 + 1) u (omega arith) (omega arith) (omega arith) (st .1 .0),
-        byte-from 6 (at + 1 + 1 + 4) (omega arith) ∙ st .1 .1 .0,
-        number-from s at 15 7 8 (at + 1 + 1 + 4 + 1) (omega arith) (omega arith) (omega arith) (omega arith) ∙ st .1 .1 .1 .0,
+        float-stands x ratioCommand 2 (at + 1 + 1) u (omega arith) (omega arith) (omega arith) (st .1 .0),
+        byte-from s at 6 (at + 1 + 1 + 4) (omega arith) ∙ st .1 .1 .0,
+        number-from s at ratioCommand 7 8 (at + 1 + 1 + 4 + 1) (omega arith) (omega arith) (omega arith) (omega arith) ∙ st .1 .1 .1 .0,
       )
 
   pub tone-stands : (i : ℕ) (k : Kind) → KindInRange k → getD s at 0 ≡ kindRow k .code → at + 1 + width (kindRow k .operands) ≤ length s
@@ -80,17 +76,17 @@ module _ (s : List ℕ) (at : ℕ) where
     tone-operand : number s (at + 1) 1 ≡ i
     tone-operand = number-one s (at + 1) ∙ tone
 
-    numbers-read : (isSingle : Bool) → at + 15 ≤ length s → (let n = numbersAt s at in
+    numbers-read : (isSingle : Bool) → at + toneCommand ≤ length s → (let n = numbersAt s at in
         Stand s (at + 1) (toneNumber 1 ∷ numbers isSingle) (i ∷ n .noise ∷ n .gain ∷ n .cap ∷ n .mask ∷ []))
     numbers-read isSingle whole = (
       tone-operand,
       (
-        sym (number-from s at 15 2 2 (at + 1 + 1) whole (omega arith) (omega arith) (omega arith)),
+        sym (number-from s at toneCommand 2 2 (at + 1 + 1) whole (omega arith) (omega arith) (omega arith)),
         (
-          sym (number-from s at 15 4 2 (at + 1 + 1 + 2) whole (omega arith) (omega arith) (omega arith)),
+          sym (number-from s at toneCommand 4 2 (at + 1 + 1 + 2) whole (omega arith) (omega arith) (omega arith)),
           (
-            sym (byte-from 6 (at + 1 + 1 + 2 + 2) (omega arith)),
-            (sym (number-from s at 15 7 8 (at + 1 + 1 + 2 + 2 + 1) whole (omega arith) (omega arith) (omega arith)), tt),
+            sym (byte-from s at 6 (at + 1 + 1 + 2 + 2) (omega arith)),
+            (sym (number-from s at toneCommand 7 8 (at + 1 + 1 + 2 + 2 + 1) whole (omega arith) (omega arith) (omega arith)), tt),
           ),
         ),
       ),
@@ -105,31 +101,31 @@ module _ (s : List ℕ) (at : ℕ) where
           let small : number s place 4 < 2 ^ 32 = omega (arith, number-lt s place 4 (λ j h. b (place + j))) in
           rw is (sym (bits-back (number s place 4) (in-range-usable (number s place 4) (rw is at R)) small))
 
-      levels-read : Usable (levelsAt s at .reading) → at + 19 ≤ length s → (let n = levelsAt s at in
+      levels-read : Usable (levelsAt s at .reading) → at + levelsCommand ≤ length s → (let n = levelsAt s at in
           Stand s (at + 1) (toneNumber 1 ∷ levelOperands) (i ∷ (readingBits (n .reading) ++ (n .cap ∷ n .mask ∷ []))))
       levels-read u whole = (
         tone-operand,
         (
-          float-read 19 2 (at + 1 + 1) (u .0) whole (omega arith) (omega arith),
+          float-read levelsCommand 2 (at + 1 + 1) (u .0) whole (omega arith) (omega arith),
           (
-            float-read 19 6 (at + 1 + 1 + 4) (u .1) whole (omega arith) (omega arith),
+            float-read levelsCommand 6 (at + 1 + 1 + 4) (u .1) whole (omega arith) (omega arith),
             (
-              sym (byte-from 10 (at + 1 + 1 + 4 + 4) (omega arith)),
-              (sym (number-from s at 19 11 8 (at + 1 + 1 + 4 + 4 + 1) whole (omega arith) (omega arith) (omega arith)), tt),
+              sym (byte-from s at 10 (at + 1 + 1 + 4 + 4) (omega arith)),
+              (sym (number-from s at levelsCommand 11 8 (at + 1 + 1 + 4 + 4 + 1) whole (omega arith) (omega arith) (omega arith)), tt),
             ),
           ),
         ),
       )
 
-      ratio-read : Usable (ratioAt s at .reading) → at + 15 ≤ length s → (let n = ratioAt s at in
+      ratio-read : Usable (ratioAt s at .reading) → at + ratioCommand ≤ length s → (let n = ratioAt s at in
           Stand s (at + 1) (toneNumber 1 ∷ ratioOperands) (i ∷ (readingBits (n .reading) ++ (n .cap ∷ n .mask ∷ []))))
       ratio-read u whole = (
         tone-operand,
         (
-          float-read 15 2 (at + 1 + 1) u whole (omega arith) (omega arith),
+          float-read ratioCommand 2 (at + 1 + 1) u whole (omega arith) (omega arith),
           (
-            sym (byte-from 6 (at + 1 + 1 + 4) (omega arith)),
-            (sym (number-from s at 15 7 8 (at + 1 + 1 + 4 + 1) whole (omega arith) (omega arith) (omega arith)), tt),
+            sym (byte-from s at 6 (at + 1 + 1 + 4) (omega arith)),
+            (sym (number-from s at ratioCommand 7 8 (at + 1 + 1 + 4 + 1) whole (omega arith) (omega arith) (omega arith)), tt),
           ),
         ),
       )
