@@ -50,7 +50,7 @@ CAPS = {0x04: (0, 15), 0x05: (0, 7), 0x09: (0, 15), 0x0a: (0, 15)}
 GROWTH = {0x04: 2, 0x05: 4, 0x09: 2, 0x0a: 2}
 FLOATS = {0x09: ["noise float", "gain float"], 0x0a: ["ratio float"]}
 # "the cost is over 16,776,705".
-DEAREST = 16776705
+LARGEST_COST = 16776705
 
 
 @functools.lru_cache(maxsize=None)
@@ -131,7 +131,7 @@ def judge_float(line, command, name, values, place):
         raise Refused(12, place)
     if name == FLOATS[command][-1]:
         cost = cost_of_floats(line.gap, tuple(values[f] for f in FLOATS[command]))
-        if cost is None or cost > DEAREST:
+        if cost is None or cost > LARGEST_COST:
             raise Refused(13, place - 4 * (len(FLOATS[command]) - 1))
 
 
@@ -638,7 +638,7 @@ def floats_selftest():
     # Values that the format gives: 1, the next above and below, the largest, the smallest normal, the ends of the subnormals.
     values = {0x3f800000: 1, 0x3f800001: 1 + Fraction(1, 2**23), 0x3f7fffff: 1 - Fraction(1, 2**24), 0x7f7fffff: 2**128 - 2**104,
               0x00800000: Fraction(1, 2**126), 0x007fffff: Fraction(2**23 - 1, 2**149), 0x00000001: Fraction(1, 2**149),
-              0x4b7ffe01: DEAREST, 0x3eaaaaab: Fraction(11184811, 2**25)}
+              0x4b7ffe01: LARGEST_COST, 0x3eaaaaab: Fraction(11184811, 2**25)}
     for bits, value in values.items():
         assert exact(bits) == value and nearest(Fraction(value)) == bits and exact(bits | 1 << 31) == -value
     assert exact(0) == exact(1 << 31) == 0
@@ -657,8 +657,8 @@ def floats_selftest():
 
 def readings_selftest():
     # "the larger of 1 and the smallest whole number not below g × ratio / 256".
-    assert [cost_of_floats(256, (bits,)) for bits in (1, 0x3f800000, 0x3f800001, 0x40400000, 0x4b7ffe01)] == [1, 1, 2, 3, DEAREST]
-    assert cost_of_floats(65535, (0x477fff00,)) == DEAREST and cost_of_floats(257, (0x3f800000,)) == 2
+    assert [cost_of_floats(256, (bits,)) for bits in (1, 0x3f800000, 0x3f800001, 0x40400000, 0x4b7ffe01)] == [1, 1, 2, 3, LARGEST_COST]
+    assert cost_of_floats(65535, (0x477fff00,)) == LARGEST_COST and cost_of_floats(257, (0x3f800000,)) == 2
     # "rounded once": a third is rounded up, so that three times it is above 1. A quotient of zero costs 1; one of infinity has none.
     assert cost_of_floats(768, (0x3f800000, 0x40400000)) == 2 and cost_of_floats(65535, (1, 0x7f7fffff)) == 1
     assert cost_of_floats(256, (0x7f7fffff, 1)) is None and cost_of_floats(256, (3, 1)) == 3

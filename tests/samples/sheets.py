@@ -685,8 +685,8 @@ def wide(b, body, g=256):
 
 ALL_PAIRS = "(04 ++ 0001 0001 0f %s)*256" % WIDE
 ALL_SINGLES = "(05 ++ 0001 0001 07 %s)*256" % WIDE
-DEAREST_PAIRS = "(04 ++ ffff 0001 0f %s)*256" % WIDE
-DEAREST_SINGLES = "(05 ++ ffff 0001 07 %s)*256" % WIDE
+LARGEST_COST_PAIRS = "(04 ++ ffff 0001 0f %s)*256" % WIDE
+LARGEST_COST_SINGLES = "(05 ++ ffff 0001 07 %s)*256" % WIDE
 BY_TURNS = "(04 ++ 01== 0020 0f %s 05 ++ 01== 000a 07 %s)*128" % (WIDE, WIDE)
 HALVES = "(05 ++ 01== 0007 07 %s)*128 (04 ++ 01== 0030 0f %s)*128" % (WIDE, WIDE)
 group("256 pairs of cost 1, cap 15, mask 2^47: at 2^47, at the full table's power and one below, at 1,000,000, at 255")
@@ -696,7 +696,7 @@ group("256 singles of cost 1, cap 7, mask 2^47: the same")
 for b in (TOP, 256 * 16383, 256 * 16383 - 1, 1000000, 767):
     most(wide(b, ALL_SINGLES))
 group("256 pairs, and 256 singles, of the largest cost, 16,776,705: at 2^47, at the full table's power and one below, and half of it")
-for body, full in [(DEAREST_PAIRS, 256 * 32767 * 16776705), (DEAREST_SINGLES, 256 * 16383 * 16776705)]:
+for body, full in [(LARGEST_COST_PAIRS, 256 * 32767 * 16776705), (LARGEST_COST_SINGLES, 256 * 16383 * 16776705)]:
     assert full <= TOP
     for b in (TOP, full, full - 1, full // 2):
         most(wide(b, body, 65535))
@@ -718,7 +718,7 @@ refit([15] * 256, wide(1000000, ALL_PAIRS))
 refit([0] * 256, wide(TOP, ALL_PAIRS), ([15] * 256, 3840))
 refit([0] * 128 + [15] * 128, wide(1000000, ALL_PAIRS))
 refit([0] * 128 + [7] * 128, wide(1000000, ALL_SINGLES))
-refit([15] * 256, wide(256 * 32767 * 16776705 - 1, DEAREST_PAIRS, 65535), ([15] * 255 + [14], 1))
+refit([15] * 256, wide(256 * 32767 * 16776705 - 1, LARGEST_COST_PAIRS, 65535), ([15] * 255 + [14], 1))
 refit("(0f 07)*128", wide(3000000, BY_TURNS))
 refit("(00 07)*128", wide(3000000, BY_TURNS))
 refit("(0f 00)*128", wide(3000000, BY_TURNS))
@@ -1070,9 +1070,9 @@ for tones, body in [(214, "(%s)*214" % LEVELS), (256, "(%s)*256" % RATIO)]:
     refit([15] * tones + [0] * (256 - tones), wide(3000000, body), (bits, 15 * tones - sum(bits)))
     limited(wide(3000000, body), " ".join(["15:cap"] * tones + ["0:silent"] * (256 - tones)))
 group("W5: 256 tones of 0a of the largest cost: at the full table's power and one below; of 04, 05 and 0a by turns at 3,000,000")
-DEAREST_RATIOS = "(0a ++ 477fff00 0f %s)*256" % WIDE
-most(wide(256 * 32767 * 16776705, DEAREST_RATIOS, 65535), [15] * 256)
-most(wide(256 * 32767 * 16776705 - 1, DEAREST_RATIOS, 65535), [15] * 255 + [14])
+LARGEST_COST_RATIOS = "(0a ++ 477fff00 0f %s)*256" % WIDE
+most(wide(256 * 32767 * 16776705, LARGEST_COST_RATIOS, 65535), [15] * 256)
+most(wide(256 * 32767 * 16776705 - 1, LARGEST_COST_RATIOS, 65535), [15] * 255 + [14])
 most(wide(3000000, "(04 ++ 01== 0020 0f %s 05 ++ 01== 000a 07 %s 0a ++ 41==0000 0f %s)*85" % (WIDE, WIDE, WIDE)))
 
 text = "".join(r + "\n" for r in ROWS)
