@@ -28,6 +28,7 @@ pub fn steps_at(s: &[u8], gap: u16, place: u16, silenced: bool) -> Steps
         },
         cost: 0,
         doublings: 0,
+        rest: 0,
     };
     if silenced {
         return none;
@@ -48,15 +49,17 @@ fn fill_arrays(
     limits: &mut [u8; TONES],
     costs: &mut [u32; TONES],
     doublings: &mut [u8; TONES],
+    rests: &mut [u32; TONES],
 )
     requires { ⌜ Indexed (now s) header (now places) (now maps) ⌝ }
-    ensures { λ r. ⌜ HoldsLineOf (reading (before s)) (arraysAfter limits costs doublings) ⌝ }
+    ensures { λ r. ⌜ HoldsLineOf (reading (before s)) (arraysAfter limits costs doublings rests) ⌝ }
 {
     let gap = header.gap;
     let parts = gaps::parts(gap);
     *limits = [0; TONES];
     *costs = [0; TONES];
     *doublings = [0; TONES];
+    *rests = [0; TONES];
     let mut i: usize = 0;
     while i < header.size as usize {
         let tone = i as u8;
@@ -65,6 +68,7 @@ fn fill_arrays(
         limits[i] = steps.limit.bits;
         costs[i] = steps.cost;
         doublings[i] = steps.doublings;
+        rests[i] = steps.rest;
         i += 1;
     }
 }
@@ -76,8 +80,9 @@ pub fn read_tones(
     limits: &mut [u8; TONES],
     costs: &mut [u32; TONES],
     doublings: &mut [u8; TONES],
+    rests: &mut [u32; TONES],
 ) -> Read
-    ensures { λ r. ⌜ TonesOf r (arraysBefore limits costs doublings) (arraysAfter limits costs doublings) (reading (before s)) ⌝ }
+    ensures { λ r. ⌜ TonesOf r (arraysBefore limits costs doublings rests) (arraysAfter limits costs doublings rests) (reading (before s)) ⌝ }
 {
     let mut places: [u16; TONES] = [0; TONES];
     let mut maps: [u32; WORDS] = [0; WORDS];
@@ -85,7 +90,7 @@ pub fn read_tones(
     match read {
         Read::Refused(refusal) => Read::Refused(refusal),
         Read::Accepted(header) => {
-            fill_arrays(s, header, &places, &maps, limits, costs, doublings);
+            fill_arrays(s, header, &places, &maps, limits, costs, doublings, rests);
             Read::Accepted(header)
         }
     }

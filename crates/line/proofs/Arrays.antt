@@ -11,13 +11,13 @@ use lib.ListN.{getD, replicate, length-replicate}
 use Rattle.sizes.specs.Sizes.{mostTones, pairCap, mostBitsOfAll}
 use Rattle.lists.proofs.Stores.{all-same}
 use Rattle.silence.specs.Map.{silenced}
-use Rattle.steps.specs.Tones.{Tones, step, Rising, Table, _!_, noBits, totalBits, totalPower}
-use Rattle.steps.proofs.Sums.{sum-at-most, sum-zero}
+use Rattle.steps.specs.Tones.{Tones, step, Rising, Table, _!_, noBits, sum, totalBits, totalPower}
+use Rattle.steps.proofs.Sums.{sum-at-most, sum-eq}
 use Rattle.line.specs.declared.Limit.{Limit}
 use Rattle.line.specs.declared.Steps.{Steps}
 use Rattle.line.specs.Tone.{cost, doublings, limit}
 use Rattle.line.specs.Line.{Entry, undescribed, described, Line, gapOf, entryOf, entryLimit, entrySetBy, tones, EntryInRange, LineInRange, noSteps, entrySteps, stepsAt}
-use Rattle.line.specs.Arrays.{Arrays, limitAt, costAt, doublingsAt, stepSize, ArraysInRange, Under, Describes, StandsFor, ArraysOf}
+use Rattle.line.specs.Arrays.{Arrays, limitAt, costAt, doublingsAt, restAt, stepSize, StepsRise, ArraysInRange, Under, Describes, StandsFor, ArraysOf}
 use Rattle.line.proofs.Growth.{doublings-low, shift-at-most}
 use Rattle.line.proofs.Limits.{limit-is}
 use Rattle.line.proofs.Loads.{line-power}
@@ -26,12 +26,13 @@ use Rattle.line.proofs.Loads.{line-power}
 
 -- the ranges of what the runs need of one tone
 record Small (s : Steps) : Type 0 where
-  cost-low : 0 < s .limit .bits → (0 < s .cost) × (0 < s .doublings)
+  steps-rise : 0 < s .limit .bits → StepsRise (s .cost) (s .doublings) (s .rest)
   cost-high : s .cost < 2 ^ 24
   shift-high : s .doublings * s .limit .bits ≤ 15
+  rest-high : s .rest < 2 ^ 24
 
 none-small : Small noSteps
-none-small = record { cost-low = λ h. omega arith; cost-high = omega arith; shift-high = omega arith }
+none-small = record { steps-rise = λ h. absurd (omega arith); cost-high = omega arith; shift-high = omega arith; rest-high = omega arith }
 
 small : (g : ℕ) (e : Entry) (q : Bool) → EntryInRange g e → Small (entrySteps g e q)
 small g e true I = none-small
@@ -39,9 +40,10 @@ small g undescribed false I = none-small
 small g (described t) false I =
     let w = cost g t in
     record {
-      cost-low = λ h. (I .cost .low, doublings-low (t .kind));
+      steps-rise = λ h. record { doubles = doublings-low (t .kind); rest-low = I .cost .low };
       cost-high = omega (arith, I .cost .high);
       shift-high = shift-at-most t (limit t w) (limit-is t w .at-most) (I .bounds);
+      rest-high = omega arith;
     }
 
 -- the limit with what set it
@@ -54,9 +56,10 @@ module _ (l : Line) (I : LineInRange l) (A : Arrays) (h : ArraysOf l A) where
   pub line-arrays-in-range : ArraysInRange (l .size) A
   line-arrays-in-range = record {
     count-high = I .size-high;
-    cost-low = λ i il. rw (h .limit-at i, h .cost-at i, h .doublings-at i) (at i il .cost-low);
+    steps-rise = λ i il. rw (h .limit-at i, h .cost-at i, h .doublings-at i, h .rest-at i) (at i il .steps-rise);
     cost-high = λ i il. rw (h .cost-at i) (at i il .cost-high);
     shift-high = λ i il. rw (h .doublings-at i, h .limit-at i) (at i il .shift-high);
+    rest-high = λ i il. rw (h .rest-at i) (at i il .rest-high);
   }
     where
       at : (i : ℕ) → i < l .size → Small (stepsAt l i)
@@ -66,14 +69,14 @@ module _ (l : Line) (I : LineInRange l) (A : Arrays) (h : ArraysOf l A) where
   line-describes = record {
     same-count = refl;
     same-limit = λ i il. sym (h .limit-at i ∙ ap (λ (x : Limit). x .bits) (limit-same (gapOf l) (entryOf l i) (silenced (l .maps) i)));
-    same-power = λ i b il bl. rw (h .cost-at i, h .doublings-at i) (line-power l I i b bl);
+    same-power = λ i b il bl. rw (h .cost-at i, h .doublings-at i, h .rest-at i) (line-power l I i b bl);
   }
 
 -- ---- any arrays that describe tones
 
 module _ {count : ℕ} {A : Arrays} {T : Tones} (D : Describes count A T) where
   -- steps below the limits
-  pub same-step : (i b : ℕ) → i < count → b < T .limit i → step T i b ≡ stepSize (costAt A i) (doublingsAt A i) b
+  pub same-step : (i b : ℕ) → i < count → b < T .limit i → step T i b ≡ stepSize (costAt A i) (doublingsAt A i) (restAt A i) b
   unfolding step
   same-step i b il bl = rw (D .same-power i (suc b) il bl, D .same-power i b il (omega arith))
 
@@ -89,14 +92,14 @@ module _ {count : ℕ} {A : Arrays} {T : Tones} (D : Describes count A T) where
       none : (i : ℕ) → noBits T ! i ≡ 0
       none i = all-same (T .count) i 0
 
-  -- 'no bits, no power'
-  pub no-bits-no-power : totalPower T (noBits T) ≡ 0
-  no-bits-no-power = sum-zero (T .count) (λ i. T .power i (noBits T ! i)) (λ i il. power i (omega (arith, D .same-count)))
+  -- the table of no bits has the rests for its power
+  pub no-bits-power : totalPower T (noBits T) ≡ sum count (restAt A)
+  no-bits-power =
+      sum-eq (T .count) (λ i. T .power i (noBits T ! i)) (restAt A) (λ i il. power i (omega (arith, D .same-count)))
+      ∙ ap (λ (n : ℕ). sum n (restAt A)) (D .same-count)
     where
-      power : (i : ℕ) → i < count → T .power i (noBits T ! i) ≡ 0
-      power i il =
-          let z : doublingsAt A i * 0 ≡ 0 = omega arith in
-          ap (T .power i) (all-same (T .count) i 0) ∙ D .same-power i 0 il (omega arith) ∙ rw z (omega arith)
+      power : (i : ℕ) → i < count → T .power i (noBits T ! i) ≡ restAt A i
+      power i il = ap (T .power i) (all-same (T .count) i 0) ∙ D .same-power i 0 il (omega arith)
 
 -- ---- tables beside arrays
 
@@ -106,7 +109,7 @@ limit-small {A = A} R i il = by (decLt 0 (limitAt A i))
   where
     by : Dec (0 < limitAt A i) → limitAt A i ≤ pairCap
     by (no m) = omega arith
-    by (yes q) = omega (arith, R .shift-high i il, mul-le-mul-right (limitAt A i) (R .cost-low i il q .1))
+    by (yes q) = omega (arith, R .shift-high i il, mul-le-mul-right (limitAt A i) (R .steps-rise i il q .doubles))
 
 module _ {count : ℕ} {A : Arrays} {bits : List ℕ} {T : Tones} {t : Table} (S : StandsFor count A bits T t) where
   pub stands-under : Under count A bits

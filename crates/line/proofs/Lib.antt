@@ -1,6 +1,7 @@
 pub mod Costs
 pub mod Largest
 pub mod Growth
+pub mod Powers
 pub mod Limits
 pub mod Tries
 pub mod Masks

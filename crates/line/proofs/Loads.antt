@@ -1,8 +1,8 @@
 -- The tones of a line in range rise, so all that crate steps proves holds of its runs: demand 3 and the set number of bits.
 -- Assumes nothing.
-use mathlib.Core.Path.{_≡_, ap, _∙_}
+use mathlib.Core.Path.{_≡_, refl, ap, _∙_}
 use mathlib.Core.Bool.{Bool, true, false}
-use Prim.Native.Nat.{ℕ, suc, _+_, _≤_, _<_}
+use Prim.Native.Nat.{ℕ, zero, suc, _+_, _≤_, _<_}
 use native.Mathlib.Omega.{arith}
 use lib.ListN.{getD-replicate, length-replicate}
 use Rattle.silence.specs.Map.{silenced}
@@ -14,8 +14,8 @@ use Rattle.steps.proofs.Rising.{rising}
 use Rattle.steps.proofs.Demand3.{demand-3}
 use Rattle.steps.proofs.SetBits.{set-bits}
 use Rattle.line.specs.declared.Steps.{Steps}
-use Rattle.line.specs.Tone.{cost}
-use Rattle.line.specs.Line.{Entry, undescribed, described, Line, gapOf, entryOf, entryLimit, entryPower, tones, EntryInRange, LineInRange, entrySteps, stepsAt}
+use Rattle.line.specs.Tone.{cost, power, limit}
+use Rattle.line.specs.Line.{Entry, undescribed, described, Line, gapOf, entryOf, entryLimit, entryPower, tones, EntryInRange, LineInRange, stepsOf, entrySteps, stepsAt}
 use Rattle.line.specs.Arrays.{powerIn, stepSize}
 use Rattle.line.proofs.Growth.{power-is, power-grows, power-zero, step-rises}
 
@@ -27,16 +27,22 @@ entry-grows : (g : ℕ) (e : Entry) (b : ℕ) → entryPower g e b ≤ entryPowe
 entry-grows g undescribed b = omega arith
 entry-grows g (described t) b = power-grows t (cost g t) b
 
+-- the power of b bits by the code's account of a tone
+abbrev powerBy : Steps → (b : ℕ) → ℕ
+powerBy s b = powerIn (s .cost) (s .doublings) (s .rest) b
+
 -- the power of bits within the limit is that of the code's account
-entry-power : (g : ℕ) (e : Entry) (q : Bool) (b : ℕ) → b ≤ entryLimit g e q
-    → entryPower g e b ≡ powerIn (entrySteps g e q .cost) (entrySteps g e q .doublings) b
-entry-power g e true b h = let z : b ≡ 0 = omega arith in rw z (omega (arith, entry-no-bits g e))
-entry-power g undescribed false b h = omega arith
-entry-power g (described t) false b h = power-is t (cost g t) b
+entry-power : (g : ℕ) (e : Entry) (q : Bool) (b : ℕ) → b ≤ entryLimit g e q → entryPower g e b ≡ powerBy (entrySteps g e q) b
+entry-power g e true zero h = entry-no-bits g e
+entry-power g e true (suc b) h = absurd (omega arith)
+entry-power g undescribed false zero h = refl
+entry-power g undescribed false (suc b) h = absurd (omega arith)
+entry-power g (described t) false zero h = power-zero t (cost g t)
+entry-power g (described t) false (suc b) h = power-is t (cost g t) (suc b)
 
 -- the step at b bits by the code's account of a tone
 abbrev stepBy : Steps → (b : ℕ) → ℕ
-stepBy s b = stepSize (s .cost) (s .doublings) b
+stepBy s b = stepSize (s .cost) (s .doublings) (s .rest) b
 
 entry-add-up : (g : ℕ) (e : Entry) (q : Bool) (b : ℕ) → b < entryLimit g e q → entryPower g e (suc b) ≡ entryPower g e b + stepBy (entrySteps g e q) b
 entry-add-up g e q b h =
@@ -48,7 +54,8 @@ entry-rise g e true b I h = omega arith
 entry-rise g undescribed false b I h = omega arith
 entry-rise g (described t) false b I h =
     let w = cost g t in
-    rw (← power-is t w b, ← power-is t w (suc b), ← power-is t w (suc (suc b))) (step-rises t w b (I .cost .low))
+    let by : (n : ℕ) → n ≤ limit t w → power t w n ≡ powerBy (stepsOf g t) n = entry-power g (described t) false in
+    rw (← by b (omega arith), ← by (suc b) (omega arith), ← by (suc (suc b)) h) (step-rises t w b (I .cost .low))
 
 module _ (l : Line) (I : LineInRange l) where
   pub line-rising : Rising (tones l)
@@ -58,7 +65,7 @@ module _ (l : Line) (I : LineInRange l) where
       (λ i b il bl. entry-rise (gapOf l) (entryOf l i) (silenced (l .maps) i) b (I .entries i il) bl)
 
   -- the powers of a line are those of what the code keeps of its tones
-  pub line-power : (i b : ℕ) → b ≤ tones l .limit i → tones l .power i b ≡ powerIn (stepsAt l i .cost) (stepsAt l i .doublings) b
+  pub line-power : (i b : ℕ) → b ≤ tones l .limit i → tones l .power i b ≡ powerIn (stepsAt l i .cost) (stepsAt l i .doublings) (stepsAt l i .rest) b
   line-power i b bl = entry-power (gapOf l) (entryOf l i) (silenced (l .maps) i) b bl
 
   -- 'No bits, no power': the table of no bits keeps every budget

@@ -13,7 +13,7 @@ use Rattle.line.specs.declared.SetBy.the-variants.{Cap, Mask}
 use Rattle.line.specs.declared.Limit.{Limit}
 use Rattle.line.specs.Tone.{boundsOf, doublings, BoundsInRange, Cost, power, limitOf}
 use Rattle.line.specs.Tries.{tries}
-use Rattle.line.specs.Arrays.{powerIn}
+use Rattle.line.specs.Arrays.{powerOf}
 use Rattle.line.proofs.Growth.{doublings-high, power-is, power-next}
 use Rattle.line.proofs.Limits.{cap-high, Allowed, mask-stops, mask-tries, cap-stops, cap-tries}
 
@@ -27,7 +27,7 @@ pub record Searched (t : Tone) (w : ℕ) (n : Bounds) (d : ℕ) : Type 0 where
 -- between the turns: b bits are within the cap, and their power p within the mask; as many powers were tried
 pub record Between (w : ℕ) (n : Bounds) (d b tried p : ℕ) : Type 0 where
   pub at-most : b ≤ n .cap
-  pub power-of : p ≡ powerIn w d b
+  pub power-of : p ≡ powerOf w d b
   pub under : p ≤ n .mask
   pub counted : tried ≡ b
 
@@ -38,7 +38,7 @@ module _ {t : Tone} {w : ℕ} {n : Bounds} {d : ℕ} (S : Searched t w n d) wher
   mask-is : n .mask ≡ boundsOf t .mask
   mask-is = ap (λ (m : Bounds). m .mask) (S .bounds)
 
-  power-in : (b : ℕ) → powerIn w d b ≡ power t w b
+  power-in : (b : ℕ) → powerOf w d b ≡ power t w b
   power-in b = rw (S .shift) (sym (power-is t w b))
 
   pub shift-at-most-2 : d ≤ 2
@@ -56,9 +56,9 @@ module _ {t : Tone} {w : ℕ} {n : Bounds} {d : ℕ} (S : Searched t w n d) wher
     shift-exact : p * 2 ^ d % 2 ^ 64 ≡ p * 2 ^ d
     shift-exact = shl-exact 48 d 64 (omega (arith, power-high)) (omega (arith, shift-at-most-2))
 
-    module _ {first : ℕ} (F : first ≡ powerIn w d 1) where
+    module _ {first : ℕ} (F : first ≡ powerOf w d 1) where
       -- the power that a turn tries is that of one bit more
-      pub next : p * 2 ^ d % 2 ^ 64 + first ≡ powerIn w d (b + 1)
+      pub next : p * 2 ^ d % 2 ^ 64 + first ≡ powerOf w d (b + 1)
       next = rw (shift-exact, B .power-of, F, add-one b) (sym (power-next w d b))
 
       pub next-fits : p * 2 ^ d % 2 ^ 64 + first < 2 ^ 64
@@ -75,11 +75,11 @@ module _ {t : Tone} {w : ℕ} {n : Bounds} {d : ℕ} (S : Searched t w n d) wher
       under = omega (arith, B .under, mask-is, B .power-of, power-in b);
     }
 
-    pub mask-ends : b < n .cap → n .mask < powerIn w d (b + 1)
+    pub mask-ends : b < n .cap → n .mask < powerOf w d (b + 1)
         → (_≡_ {A = Limit} (record { bits = b; by = Mask }) (limitOf t w)) × (tried + 1 ≡ tries t w)
     mask-ends below over =
         let lower : b < boundsOf t .cap = omega (arith, below, cap-is) in
-        let above : boundsOf t .mask < power t w (suc b) = omega (arith, over, mask-is, power-in (suc b), ap (powerIn w d) (add-one b)) in
+        let above : boundsOf t .mask < power t w (suc b) = omega (arith, over, mask-is, power-in (suc b), ap (powerOf w d) (add-one b)) in
         (mask-stops t w allowed lower above, omega (arith, B .counted, mask-tries t w allowed lower above))
 
     pub cap-ends : n .cap ≤ b → (_≡_ {A = Limit} (record { bits = b; by = Cap }) (limitOf t w)) × (tried ≡ tries t w)

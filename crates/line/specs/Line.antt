@@ -89,13 +89,13 @@ pub record LineInRange (l : Line) : Type 0 where
   pub budget-high : l .budget ≤ mostPower
   pub entries : (i : ℕ) → i < l .size → EntryInRange (gapOf l) (entryOf l i)
 
--- What the code finds of a tone, whichever its kind: its limit with what set it, and for the runs cost and doublings. A silenced tone, and
--- one not described, has nothing.
+-- What the code finds of a tone, whichever its kind: its limit with what set it, and for the runs cost, doublings and rest. A silenced tone,
+-- and one not described, has nothing.
 abbrev pub noSteps : Steps
-noSteps = record { limit = record { bits = 0; by = Silent }; cost = 0; doublings = 0 }
+noSteps = record { limit = record { bits = 0; by = Silent }; cost = 0; doublings = 0; rest = 0 }
 
 abbrev pub stepsOf : (g : ℕ) → Tone → Steps
-stepsOf g t = record { limit = limitOf t (cost g t); cost = cost g t; doublings = doublings t }
+stepsOf g t = record { limit = limitOf t (cost g t); cost = cost g t; doublings = doublings t; rest = 0 }
 
 abbrev pub entrySteps : (g : ℕ) → Entry → (silenced : Bool) → Steps
 entrySteps g e true = noSteps

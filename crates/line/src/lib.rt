@@ -2,7 +2,7 @@
 ghost use mathlib.Core.Path.{_≡_};
 ghost use Prim.Native.Nat.{_*_, _^_, _≤_, _<_};
 ghost use Rattle.line.specs.Line.{stepsOf};
-ghost use Rattle.line.specs.Arrays.{powerIn};
+ghost use Rattle.line.specs.Arrays.{powerOf, powerIn};
 ghost use Rattle.line.specs.Tone.{mostCap, boundsOf, doublings, NumbersInRange, BoundsInRange, InRange, Cost, wholeCost, cost, limitOf};
 ghost use Rattle.line.specs.Tries.{tries};
 use gaps::GAP_UNIT;
@@ -62,11 +62,12 @@ struct Tried {
 }
 
 // What is found of a tone, whichever its kind: its limit, and for the runs its powers. The power of b bits is the cost, doubled
-// `doublings` × b times, less the cost.
+// `doublings` × b times, less the cost; the power of no bits is the rest.
 pub struct Steps {
     pub limit: Limit,
     pub cost: u32,
     pub doublings: u8,
+    pub rest: u32,
 }
 
 // The largest cap of a tone of either kind.
@@ -136,14 +137,26 @@ fn cost(gap: u16, tone: Tone) -> u32
     }
 }
 
-// The power of a number of bits: the cost, doubled `doublings` × bits times, less the cost.
-pub fn power_at(cost: u32, doublings: u8, bits: u8) -> u64
+// The power of a number of bits, of one and more: the cost, doubled `doublings` × bits times, less the cost.
+fn power_of(cost: u32, doublings: u8, bits: u8) -> u64
     requires { ⌜ cost < 2 ^ 24 ⌝ }
     requires { ⌜ doublings * bits ≤ 15 ⌝ }
-    ensures { λ r. ⌜ r ≡ powerIn cost doublings bits ⌝ }
+    ensures { λ r. ⌜ r ≡ powerOf cost doublings bits ⌝ }
 {
     let cost = cost as u64;
     (cost << (doublings as u32 * bits as u32)) - cost
+}
+
+// The power of a number of bits, of none the rest.
+pub fn power_at(cost: u32, doublings: u8, rest: u32, bits: u8) -> u64
+    requires { ⌜ cost < 2 ^ 24 ⌝ }
+    requires { ⌜ doublings * bits ≤ 15 ⌝ }
+    ensures { λ r. ⌜ r ≡ powerIn cost doublings rest bits ⌝ }
+{
+    if bits < 1 {
+        return rest as u64;
+    }
+    power_of(cost, doublings, bits)
 }
 
 // The limit of a tone, by trying the powers of 1 bit, 2 bits and so on until the cap or the mask stops it: that one set it. Each power
@@ -156,7 +169,7 @@ fn limit_of(tone: Tone, cost: u32) -> Tried
     let bounds = bounds_of(tone);
     let cap = bounds.cap;
     let shift = doublings(tone);
-    let first = power_at(cost, shift, 1);
+    let first = power_of(cost, shift, 1);
     let mut bits: u8 = 0;
     let mut tries: u8 = 0;
     let mut power: u64 = 0;
@@ -195,5 +208,6 @@ pub fn steps_of(gap: u16, tone: Tone) -> Steps
         limit: limit,
         cost: w,
         doublings: doublings(tone),
+        rest: 0,
     }
 }

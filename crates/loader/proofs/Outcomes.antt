@@ -34,18 +34,24 @@ module _ {r : Read} {old new : Arrays} {m : Meaning} (x : TonesOf r old new m) w
 
 -- ---- the loading of a line's tones
 
-pub line-loadable : (l : Line) → LineInRange l → {A : Arrays} → ArraysOf l A → Loadable (l .size) A (tones l)
-line-loadable l I {A} h = record { in-range = line-arrays-in-range l I A h; describes = line-describes l I A h; rising = line-rising l I }
+pub line-loadable : (l : Line) → LineInRange l → {A : Arrays} → ArraysOf l A → Loadable (l .size) (l .budget) A (tones l)
+line-loadable l I {A} h = record {
+  in-range = line-arrays-in-range l I A h;
+  describes = line-describes l I A h;
+  rising = line-rising l I;
+  none-fits = no-bits-fit l I (l .budget);
+}
 
 module _ {h : Header} {A : Arrays} {m : Meaning} (x : HeldLine h A m) where
-  held-loadable : Loadable (h .size) A (tones (x .line))
+  held-loadable : Loadable (h .size) (h .budget) A (tones (x .line))
   held-loadable = rw (← x .header-is) (line-loadable (x .line) (x .in-range) (x .arrays-of))
 
-  pub some-tones : SomeTones (h .size) A
+  pub some-tones : SomeTones (h .size) (h .budget) A
   some-tones = record { tones = tones (x .line); loadable = held-loadable }
 
   -- what holds of all tones that the arrays describe holds of the line's, within the line's budget
-  pub on-held : (P : ((room : ℕ) → Loading) → Type 0) (on : Tones → (budget room : ℕ) → Loading) → ForTones (h .size) A (λ T. P (on T (h .budget))) → P (λ room. onLine m (λ T budget. on T budget room))
+  pub on-held : (P : ((room : ℕ) → Loading) → Type 0) (on : Tones → (budget room : ℕ) → Loading)
+      → ForTones (h .size) (h .budget) A (λ T. P (on T (h .budget))) → P (λ room. onLine m (λ T budget. on T budget room))
   on-held P on f = rw (x .means) (rw (← x .header-is) at (f (tones (x .line)) held-loadable))
 
 -- a sheet that was refused

@@ -38,7 +38,8 @@ pub fn load_most(s: &[u8], table: &mut [u8]) -> Loaded
     let mut limits: [u8; TONES] = [0; TONES];
     let mut costs: [u32; TONES] = [0; TONES];
     let mut doublings: [u8; TONES] = [0; TONES];
-    let read = arrays::read_tones(s, &mut limits, &mut costs, &mut doublings);
+    let mut rests: [u32; TONES] = [0; TONES];
+    let read = arrays::read_tones(s, &mut limits, &mut costs, &mut doublings, &mut rests);
     match read {
         Read::Refused(refusal) => Loaded::Refused(refusal),
         Read::Accepted(header) => loadings::most(
@@ -47,6 +48,7 @@ pub fn load_most(s: &[u8], table: &mut [u8]) -> Loaded
             &limits,
             &costs,
             &doublings,
+            &rests,
             table,
         ),
     }
@@ -62,7 +64,8 @@ pub fn load_target(s: &[u8], target: u32, table: &mut [u8]) -> Loaded
     let mut limits: [u8; TONES] = [0; TONES];
     let mut costs: [u32; TONES] = [0; TONES];
     let mut doublings: [u8; TONES] = [0; TONES];
-    let read = arrays::read_tones(s, &mut limits, &mut costs, &mut doublings);
+    let mut rests: [u32; TONES] = [0; TONES];
+    let read = arrays::read_tones(s, &mut limits, &mut costs, &mut doublings, &mut rests);
     match read {
         Read::Refused(refusal) => Loaded::Refused(refusal),
         Read::Accepted(header) => loadings::target(
@@ -71,6 +74,7 @@ pub fn load_target(s: &[u8], target: u32, table: &mut [u8]) -> Loaded
             &limits,
             &costs,
             &doublings,
+            &rests,
             target,
             table,
         ),
@@ -84,7 +88,8 @@ fn refit_up_to(s: &[u8], start: &[u8], most: u32, table: &mut [u8]) -> Refitted
     let mut limits: [u8; TONES] = [0; TONES];
     let mut costs: [u32; TONES] = [0; TONES];
     let mut doublings: [u8; TONES] = [0; TONES];
-    let read = arrays::read_tones(s, &mut limits, &mut costs, &mut doublings);
+    let mut rests: [u32; TONES] = [0; TONES];
+    let read = arrays::read_tones(s, &mut limits, &mut costs, &mut doublings, &mut rests);
     match read {
         Read::Refused(refusal) => Refitted::Refused(refusal),
         Read::Accepted(header) => loadings::refit(
@@ -93,6 +98,7 @@ fn refit_up_to(s: &[u8], start: &[u8], most: u32, table: &mut [u8]) -> Refitted
             &limits,
             &costs,
             &doublings,
+            &rests,
             start,
             most,
             table,

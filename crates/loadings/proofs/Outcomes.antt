@@ -73,7 +73,7 @@ module _ {count : ℕ} {A : Arrays} {T : Tones} {ran : Ran} {r : Running} {old n
 
 -- ---- which outcome it is, for so many tones in a buffer of so many bytes
 
-module _ {count : ℕ} {A : Arrays} {T : Tones} (L : Loadable count A T) (budget : ℕ) {room : ℕ} where
+module _ {count budget : ℕ} {A : Arrays} {T : Tones} (L : Loadable count budget A T) {room : ℕ} where
   short : room < bytesATone * count → room < bytesATone * T .count
   short h = omega (arith, L .describes .same-count)
 
@@ -96,7 +96,7 @@ module _ {count : ℕ} {A : Arrays} {T : Tones} (L : Loadable count A T) (budget
     module _ (h : bytesATone * count ≤ room) {t : Table} (q : run (addStep T budget) target (noBits T) .table ≡ t) where
       aims : targetOn T budget target room ≡ onTarget T (carrying T target t)
       unfolding targetOn
-      aims = simp (le-ltb room (bytesATone * T .count) (fits h), target-run L budget target, q)
+      aims = simp (le-ltb room (bytesATone * T .count) (fits h), target-run L target, q)
 
       pub target-missed : ¬ (totalBits T t ≡ target) → targetOn T budget target room ≡ turned-down TargetNotCarried
       unfolding carrying

@@ -21,7 +21,8 @@ use Rattle.loadings.specs.Loads.{Loadable}
 abbrev pub Searched : Arrays → (start : List ℕ) → Above → Type 0
 Searched A start r = (T : Tones) → SameLimits T (A .limits) (length start) → aboveAt r ≡ firstAbove T start (length start)
 
-module _ {count : ℕ} {A : Arrays} {T : Tones} (L : Loadable count A T) (start : List ℕ) (m : length start ≡ count) (r : Above) (found : Searched A start r) where
+module _ {count budget : ℕ} {A : Arrays} {T : Tones} (L : Loadable count budget A T) (start : List ℕ) (m : length start ≡ count) (r : Above)
+    (found : Searched A start r) where
   sized : length start ≡ T .count
   sized = omega (arith, L .describes .same-count)
 
@@ -45,12 +46,13 @@ module _ {count : ℕ} {A : Arrays} {T : Tones} (L : Loadable count A T) (start 
     keeps = none-keeps T start sized none-above
 
     -- so its powers are in range, and the running table that it is copied into stands for it
-    pub start-in-range : PowersInRange (length start) (A .costs) (A .doublings) start
+    pub start-in-range : PowersInRange (length start) (A .costs) (A .doublings) (A .rests) start
     start-in-range = record {
       cost-high = λ i il. L .in-range .cost-high i (omega arith);
       shift-high = λ i il.
           let k : i < count = omega arith in
           le-trans (mul-le-mul-left (doublingsAt A i) (omega (arith, keeps .under i (omega (arith, sized)), L .describes .same-limit i k))) (L .in-range .shift-high i k);
+      rest-high = λ i il. L .in-range .rest-high i (omega arith);
     }
 
     pub start-stands : {q : Running} → StartsAt A start q → Stands count A q T start

@@ -8,7 +8,7 @@ use Prim.Native.Nat.{ℕ, _*_}
 use lib.Dec.{ltb}
 use lib.ListN.{length, drop}
 use Rattle.sizes.specs.Sizes.{bytesATone}
-use Rattle.steps.specs.Tones.{Tones, Rising, Table, totalBits, totalPower}
+use Rattle.steps.specs.Tones.{Tones, Rising, Table, noBits, totalBits, totalPower, KeepsBudget}
 use Rattle.steps.specs.Runs.{Ran, mostBits, setBits}
 use Rattle.line.specs.Arrays.{Arrays, ArraysInRange, Describes}
 use Rattle.refusals.specs.declared.Refusal.{Refusal}
@@ -60,19 +60,20 @@ afterLoading (turned-down r) old = old
 
 -- ---- the same of arrays: what the code is given
 
--- The arrays are in range and describe rising tones T.
-pub record Loadable (count : ℕ) (A : Arrays) (T : Tones) : Type 0 where
+-- The arrays are in range and describe rising tones T, whose table of no bits keeps the budget.
+pub record Loadable (count budget : ℕ) (A : Arrays) (T : Tones) : Type 0 where
   pub in-range : ArraysInRange count A
   pub describes : Describes count A T
   pub rising : Rising T
+  pub none-fits : KeepsBudget T budget (noBits T)
 
 -- there are such tones; and what holds of all such tones
-pub record SomeTones (count : ℕ) (A : Arrays) : Type 0 where
+pub record SomeTones (count budget : ℕ) (A : Arrays) : Type 0 where
   pub tones : Tones
-  pub loadable : Loadable count A tones
+  pub loadable : Loadable count budget A tones
 
-abbrev pub ForTones : (count : ℕ) → Arrays → (Tones → Type 0) → Type 0
-ForTones count A P = (T : Tones) → Loadable count A T → P T
+abbrev pub ForTones : (count budget : ℕ) → Arrays → (Tones → Type 0) → Type 0
+ForTones count budget A P = (T : Tones) → Loadable count budget A T → P T
 
 -- a loading into a buffer: its answer, that in the paper's numbers, and the buffer
 pub record LoadsAs (r : Loaded) (old new : List ℕ) (on : (room : ℕ) → Loading) : Type 0 where

@@ -68,4 +68,4 @@ pub record RefitsAs (r : Refitted) (old new : List ℕ) (on : (room : ℕ) → L
 
 -- a re-fit by at most so many moves, of all tones that the arrays describe
 abbrev pub RefitsTones : (count most budget : ℕ) → Arrays → (start : List ℕ) → Refitted → (old new : List ℕ) → Type 0
-RefitsTones count most budget A start r old new = ForTones count A (λ T. RefitsAs r old new (refitUpTo most T budget start))
+RefitsTones count most budget A start r old new = ForTones count budget A (λ T. RefitsAs r old new (refitUpTo most T budget start))

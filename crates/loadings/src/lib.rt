@@ -31,16 +31,17 @@ pub fn most(
     limits: &[u8; TONES],
     costs: &[u32; TONES],
     doublings: &[u8; TONES],
+    rests: &[u32; TONES],
     table: &mut [u8],
 ) -> Loaded
-    requires { ⌜ SomeTones size (arrays (now limits) (now costs) (now doublings)) ⌝ }
-    ensures { λ r. ⌜ ForTones size (arraysBefore limits costs doublings) (λ T. LoadsAs r (before table) (after table) (mostOn T budget)) ⌝ }
+    requires { ⌜ SomeTones size budget (arrays (now limits) (now costs) (now doublings) (now rests)) ⌝ }
+    ensures { λ r. ⌜ ForTones size budget (arraysBefore limits costs doublings rests) (λ T. LoadsAs r (before table) (after table) (mostOn T budget)) ⌝ }
 {
     let count = size as usize;
     if table.len() < TONE_BYTES * count {
         return Loaded::Refused(Refusal::DestinationTooSmall);
     }
-    let start = starts::no_bits();
+    let start = starts::no_bits(count, rests);
     let ended = wholeruns::run(
         start,
         Rule::Add,
@@ -50,10 +51,11 @@ pub fn most(
         limits,
         costs,
         doublings,
+        rests,
     );
     let running = ended.running;
     let bits = running.bits;
-    tables::put_table(table, count, costs, doublings, &bits);
+    tables::put_table(table, count, costs, doublings, rests, &bits);
     let totals = running.totals;
     Loaded::Totals(totals.bits, totals.power)
 }
@@ -65,17 +67,18 @@ pub fn target(
     limits: &[u8; TONES],
     costs: &[u32; TONES],
     doublings: &[u8; TONES],
+    rests: &[u32; TONES],
     target: u32,
     table: &mut [u8],
 ) -> Loaded
-    requires { ⌜ SomeTones size (arrays (now limits) (now costs) (now doublings)) ⌝ }
-    ensures { λ r. ⌜ ForTones size (arraysBefore limits costs doublings) (λ T. LoadsAs r (before table) (after table) (targetOn T budget target)) ⌝ }
+    requires { ⌜ SomeTones size budget (arrays (now limits) (now costs) (now doublings) (now rests)) ⌝ }
+    ensures { λ r. ⌜ ForTones size budget (arraysBefore limits costs doublings rests) (λ T. LoadsAs r (before table) (after table) (targetOn T budget target)) ⌝ }
 {
     let count = size as usize;
     if table.len() < TONE_BYTES * count {
         return Loaded::Refused(Refusal::DestinationTooSmall);
     }
-    let start = starts::no_bits();
+    let start = starts::no_bits(count, rests);
     let ended = wholeruns::run(
         start,
         Rule::Add,
@@ -85,6 +88,7 @@ pub fn target(
         limits,
         costs,
         doublings,
+        rests,
     );
     let progress = ended.progress;
     match progress {
@@ -92,7 +96,7 @@ pub fn target(
         Progress::Moved => {
             let running = ended.running;
             let bits = running.bits;
-            tables::put_table(table, count, costs, doublings, &bits);
+            tables::put_table(table, count, costs, doublings, rests, &bits);
             let totals = running.totals;
             Loaded::Totals(totals.bits, totals.power)
         }
@@ -106,12 +110,13 @@ pub fn refit(
     limits: &[u8; TONES],
     costs: &[u32; TONES],
     doublings: &[u8; TONES],
+    rests: &[u32; TONES],
     start: &[u8],
     most: u32,
     table: &mut [u8],
 ) -> Refitted
-    requires { ⌜ SomeTones size (arrays (now limits) (now costs) (now doublings)) ⌝ }
-    ensures { λ r. ⌜ RefitsTones size most budget (arraysBefore limits costs doublings) (before start) r (before table) (after table) ⌝ }
+    requires { ⌜ SomeTones size budget (arrays (now limits) (now costs) (now doublings) (now rests)) ⌝ }
+    ensures { λ r. ⌜ RefitsTones size most budget (arraysBefore limits costs doublings rests) (before start) r (before table) (after table) ⌝ }
 {
     let count = size as usize;
     if table.len() < TONE_BYTES * count {
@@ -124,7 +129,7 @@ pub fn refit(
     match above {
         Above::Tone(tone) => Refitted::Refused(Refusal::StartAboveLimit(tone as u16)),
         Above::Nowhere => {
-            let from = starts::from_start(start, costs, doublings);
+            let from = starts::from_start(start, costs, doublings, rests);
             let ended = wholeruns::run(
                 from,
                 Rule::Refit,
@@ -134,10 +139,11 @@ pub fn refit(
                 limits,
                 costs,
                 doublings,
+                rests,
             );
             let running = ended.running;
             let bits = running.bits;
-            tables::put_table(table, count, costs, doublings, &bits);
+            tables::put_table(table, count, costs, doublings, rests, &bits);
             let totals = running.totals;
             Refitted::Totals(totals.bits, totals.power, ended.moves)
         }

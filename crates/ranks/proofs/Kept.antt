@@ -9,7 +9,7 @@ use native.Mathlib.Omega.{arith}
 use borrow.Author.Count.{below-more}
 use lib.ListN.{length, getD, set}
 use lib.Seq.{getD-set-same, getD-set-other}
-use Rattle.line.specs.Arrays.{Arrays, limitAt, costAt, doublingsAt}
+use Rattle.line.specs.Arrays.{Arrays, limitAt, costAt, doublingsAt, restAt}
 use Rattle.ranks.specs.Ranks.{freeRank, heldRank, freeRankAt, heldRankAt, NoneFrom, Keeps, Ranked}
 
 -- a store below tone n leaves the tones from n on without a step
@@ -51,8 +51,8 @@ keeps-set {n} {i} {f} {g} {ranks} K h inside others =
 pub ranked-set : {count : ℕ} {A : Arrays} {bits free held : List ℕ} → Ranked count A bits free held
     → (tone b : ℕ) → tone < count → tone < length bits → tone < length free → tone < length held
     → Ranked count A (set bits tone b)
-    (set free tone (freeRank tone (limitAt A tone) (costAt A tone) (doublingsAt A tone) b))
-    (set held tone (heldRank tone (costAt A tone) (doublingsAt A tone) b))
+    (set free tone (freeRank tone (limitAt A tone) (costAt A tone) (doublingsAt A tone) (restAt A tone) b))
+    (set held tone (heldRank tone (costAt A tone) (doublingsAt A tone) (restAt A tone) b))
 ranked-set {count} {A} {bits} {free} {held} R tone b l inBits inFree inHeld =
     let u = set bits tone b in
     let new = getD-set-same bits tone b 0 inBits in

@@ -10,7 +10,7 @@ use lib.Dec.{ltb}
 use lib.ListN.{getD}
 use Rattle.sizes.specs.Sizes.{mostTones}
 use Rattle.steps.specs.Tones.{Tones, step, Table, _!_}
-use Rattle.line.specs.Arrays.{Arrays, limitAt, costAt, doublingsAt, stepSize}
+use Rattle.line.specs.Arrays.{Arrays, limitAt, costAt, doublingsAt, restAt, stepSize}
 
 -- the base of a rank: above the number of every tone
 abbrev pub rankBase : ℕ
@@ -25,18 +25,18 @@ unfoldable pub noStep : ℕ
 noStep = 2 ^ 64 - 1
 
 -- the rank of a tone's earliest free step; that of its latest held one, counted down from the largest number
-abbrev pub freeRank : (tone limit cost doublings bits : ℕ) → ℕ
-freeRank tone limit cost doublings bits = cond (ltb bits limit) (rank (stepSize cost doublings bits) tone) noStep
+abbrev pub freeRank : (tone limit cost doublings rest bits : ℕ) → ℕ
+freeRank tone limit cost doublings rest bits = cond (ltb bits limit) (rank (stepSize cost doublings rest bits) tone) noStep
 
-abbrev pub heldRank : (tone cost doublings bits : ℕ) → ℕ
-heldRank tone cost doublings bits = cond (ltb 0 bits) (noStep - rank (stepSize cost doublings (bits - 1)) tone) noStep
+abbrev pub heldRank : (tone cost doublings rest bits : ℕ) → ℕ
+heldRank tone cost doublings rest bits = cond (ltb 0 bits) (noStep - rank (stepSize cost doublings rest (bits - 1)) tone) noStep
 
 -- the same of tone i of the arrays, at its bits
 abbrev pub freeRankAt : Arrays → (bits : List ℕ) → (i : ℕ) → ℕ
-freeRankAt A bits i = freeRank i (limitAt A i) (costAt A i) (doublingsAt A i) (getD bits i 0)
+freeRankAt A bits i = freeRank i (limitAt A i) (costAt A i) (doublingsAt A i) (restAt A i) (getD bits i 0)
 
 abbrev pub heldRankAt : Arrays → (bits : List ℕ) → (i : ℕ) → ℕ
-heldRankAt A bits i = heldRank i (costAt A i) (doublingsAt A i) (getD bits i 0)
+heldRankAt A bits i = heldRank i (costAt A i) (doublingsAt A i) (restAt A i) (getD bits i 0)
 
 -- from tone n on there is no step
 pub record NoneFrom (n : ℕ) (ranks : List ℕ) : Type 0 where

@@ -16,7 +16,7 @@ use Rattle.steps.specs.Runs as rule
 use Rattle.steps.proofs.Search.{Earliest, earliestFree-is, Latest, latestHeld-is}
 use Rattle.steps.proofs.Changes.{taking-within, total-taking, bits-taking, givingUp-within, total-givingUp, bits-givingUp, same-bits, earliest-givingUp}
 use Rattle.steps.proofs.Order.{before-place}
-use Rattle.line.specs.Arrays.{Arrays, limitAt, costAt, doublingsAt, ArraysInRange, StandsFor}
+use Rattle.line.specs.Arrays.{Arrays, limitAt, costAt, doublingsAt, restAt, ArraysInRange, StandsFor}
 use Rattle.line.proofs.Arrays.{stands-under, bits-high}
 use Rattle.ranks.specs.Ranks.{freeRank, heldRank, rankFree}
 use Rattle.ranks.proofs.Kept.{ranked-set}
@@ -45,8 +45,8 @@ module _ {count : ℕ} {A : Arrays} {bits : List ℕ} {T : Tones} {t : Table} (S
 -- the ranks of a tone are stored with its bits
 pub followed : {A : Arrays} {r : Running} {free held newFree newHeld : List ℕ} (i b : ℕ) (s : Totals) → i < mostTones → length (r .bits) ≡ mostTones
     → (length free ≡ mostTones) × (length held ≡ mostTones)
-    → newFree ≡ set free i (freeRank i (limitAt A i) (costAt A i) (doublingsAt A i) b)
-    → newHeld ≡ set held i (heldRank i (costAt A i) (doublingsAt A i) b)
+    → newFree ≡ set free i (freeRank i (limitAt A i) (costAt A i) (doublingsAt A i) (restAt A i) b)
+    → newHeld ≡ set held i (heldRank i (costAt A i) (doublingsAt A i) (restAt A i) b)
     → RanksFollow A r (record { bits = set (r .bits) i b; totals = s }) free held newFree newHeld (λ n. i < n)
 followed i b s l n m f h = record { still-ranked = λ count q R. rw (f, h) (ranked-set R i b q (omega arith) (omega arith) (omega arith)) }
 

@@ -46,13 +46,14 @@ impl Running {
         limits: &[u8; TONES],
         costs: &[u32; TONES],
         doublings: &[u8; TONES],
+        rests: &[u32; TONES],
         free: &mut [u64; TONES],
         held: &mut [u64; TONES],
     ) -> Running
-        requires { ⌜ CanTake (arrays (now limits) (now costs) (now doublings)) self f ⌝ }
+        requires { ⌜ CanTake (arrays (now limits) (now costs) (now doublings) (now rests)) self f ⌝ }
         ensures { λ r. ⌜ r ≡ taken self f ⌝ }
-        ensures { λ r. ⌜ Leads (arraysBefore limits costs doublings) self r (λ T t. NextFree T t f) (λ t. taking t (f .tone)) ⌝ }
-        ensures { λ r. ⌜ RanksFollow (arraysBefore limits costs doublings) self r (before free) (before held) (after free) (after held) (λ n. f .tone < n) ⌝ }
+        ensures { λ r. ⌜ Leads (arraysBefore limits costs doublings rests) self r (λ T t. NextFree T t f) (λ t. taking t (f .tone)) ⌝ }
+        ensures { λ r. ⌜ RanksFollow (arraysBefore limits costs doublings rests) self r (before free) (before held) (after free) (after held) (λ n. f .tone < n) ⌝ }
     {
         let mut bits = self.bits;
         let tone = f.tone;
@@ -68,6 +69,7 @@ impl Running {
             limits[tone],
             costs[tone],
             doublings[tone],
+            rests[tone],
             more,
             free,
             held,
@@ -82,13 +84,14 @@ impl Running {
         limits: &[u8; TONES],
         costs: &[u32; TONES],
         doublings: &[u8; TONES],
+        rests: &[u32; TONES],
         free: &mut [u64; TONES],
         held: &mut [u64; TONES],
     ) -> Running
-        requires { ⌜ CanGiveUp (arrays (now limits) (now costs) (now doublings)) self h ⌝ }
+        requires { ⌜ CanGiveUp (arrays (now limits) (now costs) (now doublings) (now rests)) self h ⌝ }
         ensures { λ r. ⌜ r ≡ givenUp self h ⌝ }
-        ensures { λ r. ⌜ Leads (arraysBefore limits costs doublings) self r (λ T t. LastHeld T t h) (λ t. givingUp t (h .tone)) ⌝ }
-        ensures { λ r. ⌜ RanksFollow (arraysBefore limits costs doublings) self r (before free) (before held) (after free) (after held) (λ n. h .tone < n) ⌝ }
+        ensures { λ r. ⌜ Leads (arraysBefore limits costs doublings rests) self r (λ T t. LastHeld T t h) (λ t. givingUp t (h .tone)) ⌝ }
+        ensures { λ r. ⌜ RanksFollow (arraysBefore limits costs doublings rests) self r (before free) (before held) (after free) (after held) (λ n. h .tone < n) ⌝ }
     {
         let mut bits = self.bits;
         let tone = h.tone;
@@ -104,6 +107,7 @@ impl Running {
             limits[tone],
             costs[tone],
             doublings[tone],
+            rests[tone],
             fewer,
             free,
             held,
@@ -119,19 +123,20 @@ impl Running {
         limits: &[u8; TONES],
         costs: &[u32; TONES],
         doublings: &[u8; TONES],
+        rests: &[u32; TONES],
         free: &mut [u64; TONES],
         held: &mut [u64; TONES],
     ) -> Running
-        requires { ⌜ CanGiveUp (arrays (now limits) (now costs) (now doublings)) self h ⌝ }
-        requires { ⌜ CanTake (arrays (now limits) (now costs) (now doublings)) (givenUp self h) f ⌝ }
+        requires { ⌜ CanGiveUp (arrays (now limits) (now costs) (now doublings) (now rests)) self h ⌝ }
+        requires { ⌜ CanTake (arrays (now limits) (now costs) (now doublings) (now rests)) (givenUp self h) f ⌝ }
         ensures { λ r. ⌜ r ≡ exchanged self h f ⌝ }
-        ensures { λ r. ⌜ Leads (arraysBefore limits costs doublings) self r
+        ensures { λ r. ⌜ Leads (arraysBefore limits costs doublings rests) self r
             (λ T t. LastHeld T t h × NextFree T (givingUp t (h .tone)) f) (λ t. taking (givingUp t (h .tone)) (f .tone)) ⌝ }
-        ensures { λ r. ⌜ RanksFollow (arraysBefore limits costs doublings) self r (before free) (before held) (after free) (after held)
+        ensures { λ r. ⌜ RanksFollow (arraysBefore limits costs doublings rests) self r (before free) (before held) (after free) (after held)
             (λ n. (h .tone < n) × (f .tone < n)) ⌝ }
     {
-        self = self.give_up(h, limits, costs, doublings, free, held);
-        self.take(f, limits, costs, doublings, free, held)
+        self = self.give_up(h, limits, costs, doublings, rests, free, held);
+        self.take(f, limits, costs, doublings, rests, free, held)
     }
 
     // One step of a rule: the one move that it names, or none.
@@ -143,13 +148,14 @@ impl Running {
         limits: &[u8; TONES],
         costs: &[u32; TONES],
         doublings: &[u8; TONES],
+        rests: &[u32; TONES],
         free: &mut [u64; TONES],
         held: &mut [u64; TONES],
     ) -> Stepped
-        requires { ⌜ Runnable count (arrays (now limits) (now costs) (now doublings)) self ⌝ }
-        requires { ⌜ Ranked count (arrays (now limits) (now costs) (now doublings)) (self .bits) (now free) (now held) ⌝ }
-        ensures answer { λ r. ⌜ StepsBy count (arraysBefore limits costs doublings) rule budget self r ⌝ }
-        ensures ranks { λ r. ⌜ Ranked count (arraysBefore limits costs doublings) (r .running .bits) (after free) (after held) ⌝ }
+        requires { ⌜ Runnable count (arrays (now limits) (now costs) (now doublings) (now rests)) self ⌝ }
+        requires { ⌜ Ranked count (arrays (now limits) (now costs) (now doublings) (now rests)) (self .bits) (now free) (now held) ⌝ }
+        ensures answer { λ r. ⌜ StepsBy count (arraysBefore limits costs doublings rests) rule budget self r ⌝ }
+        ensures ranks { λ r. ⌜ Ranked count (arraysBefore limits costs doublings rests) (r .running .bits) (after free) (after held) ⌝ }
     {
         let earliest = search::least(count, free);
         let latest = match rule {
@@ -163,15 +169,15 @@ impl Running {
                 progress: Progress::Finished,
             },
             Move::Take(f) => Stepped {
-                running: self.take(f, limits, costs, doublings, free, held),
+                running: self.take(f, limits, costs, doublings, rests, free, held),
                 progress: Progress::Moved,
             },
             Move::GiveUp(h) => Stepped {
-                running: self.give_up(h, limits, costs, doublings, free, held),
+                running: self.give_up(h, limits, costs, doublings, rests, free, held),
                 progress: Progress::Moved,
             },
             Move::Exchange(h, f) => Stepped {
-                running: self.exchange(h, f, limits, costs, doublings, free, held),
+                running: self.exchange(h, f, limits, costs, doublings, rests, free, held),
                 progress: Progress::Moved,
             },
         }

@@ -1,27 +1,27 @@
--- What no bits stand for. A starting table copied tone by tone with its totals: what the turns of `from_start` keep, and what the whole copy
--- stands for.
+-- What no bits stand for, with the rests added up for their power. A starting table copied tone by tone with its totals: what the turns of
+-- `from_start` keep, and what the whole copy stands for.
 -- Assumes nothing.
 use mathlib.Core.Path.{_≡_, refl, sym, _∙_}
 use mathlib.Core.List.{List}
 use Prim.Native.Nat.{ℕ, suc, _+_, _*_, _^_, _≤_, _<_}
-use native.Mathlib.Nat.{lt-of-lt-of-le}
+use native.Mathlib.Nat.{le-of-lt}
 use native.Mathlib.Numerals.{add-one}
 use native.Mathlib.Omega.{arith}
-use lib.ListN.{length, getD, set}
-use lib.Pow.{pow-mono, shl-lt}
+use lib.ListN.{length, getD, set, replicate}
 use Rattle.sizes.specs.Sizes.{mostTones, mostPower}
 use Rattle.lists.proofs.Stores.{all-same, Filled, filled-none, filled-more}
 use Rattle.steps.specs.Tones.{Table, _!_, noBits, sum}
 use Rattle.steps.proofs.Sums.{sum-at-most, sum-eq, sum-zero}
-use Rattle.line.specs.Arrays.{arrays, powerIn, PowersInRange}
-use Rattle.line.proofs.Arrays.{no-bits-stand, no-bits-no-power}
+use Rattle.line.specs.Arrays.{Arrays, arrays, restAt, powerIn, RestsInRange, PowersInRange}
+use Rattle.line.proofs.Powers.{power-high}
+use Rattle.line.proofs.Arrays.{no-bits-stand, no-bits-power}
 use Rattle.running.specs.declared.Totals.{Totals}
-use Rattle.starts.specs.Starts.{noBitsYet, StartsAtNone, StartsAt}
+use Rattle.starts.specs.Starts.{StartsAtNone, StartsAt}
 
-module _ (costs doublings : List ℕ) (t : Table) where
+module _ (costs doublings rests : List ℕ) (t : Table) where
   -- the power of tone j at its bits in a table
   abbrev pub startPower : (j : ℕ) → ℕ
-  startPower j = powerIn (getD costs j 0) (getD doublings j 0) (t ! j)
+  startPower j = powerIn (getD costs j 0) (getD doublings j 0) (getD rests j 0) (t ! j)
 
   -- the first i tones are copied, with these totals
   pub record Copied (bits : List ℕ) (s : Totals) (i : ℕ) : Type 0 where
@@ -31,35 +31,40 @@ module _ (costs doublings : List ℕ) (t : Table) where
     pub sum-power : s .power ≡ sum i startPower
     pub small : s .bits ≤ 255 * i
 
--- no bits stand for the table of no bits
-pub none-starts : StartsAtNone noBitsYet
-none-starts count A T D R = record {
+-- with the rest of one tone more the sum stays below 2^64
+pub rests-room : {count : ℕ} {rests : List ℕ} → RestsInRange count rests → (i : ℕ) → i < count → count ≤ mostTones
+    → sum i (λ j. getD rests j 0) + getD rests i 0 ≤ mostPower
+unfolding sum
+rests-room {rests = rests} R i il few =
+    omega (arith, sum-at-most (suc i) (2 ^ 24) (λ j. getD rests j 0) (λ j jl. omega (arith, R .rest-high j (omega arith))))
+
+-- no bits, with the rests for their power, stand for the table of no bits
+pub none-starts : {count power : ℕ} {A : Arrays} → power ≡ sum count (restAt A)
+    → StartsAtNone count A (record { bits = replicate mostTones 0; totals = record { bits = 0; power = power } })
+none-starts e T D R = record {
   table = no-bits-stand D R;
-  sums = record { same-bits = sym (sum-zero (T .count) (_!_ (noBits T)) (λ i il. all-same (T .count) i 0)); same-power = sym (no-bits-no-power D) };
+  sums = record { same-bits = sym (sum-zero (T .count) (_!_ (noBits T)) (λ i il. all-same (T .count) i 0)); same-power = e ∙ sym (no-bits-power D) };
 }
 
-module _ {costs doublings : List ℕ} {t : Table} where
+module _ {costs doublings rests : List ℕ} {t : Table} where
   -- no tone is copied yet
-  pub none-copied : Copied costs doublings t (noBitsYet .bits) (noBitsYet .totals) 0
+  pub none-copied : Copied costs doublings rests t (replicate mostTones 0) (record { bits = 0; power = 0 }) 0
   unfolding sum
   none-copied = record { inside = omega arith; copied = filled-none mostTones (_!_ t); sum-bits = refl; sum-power = refl; small = omega arith }
 
   -- with one tone more the sum stays below 2^64
-  pub power-room : PowersInRange (length t) costs doublings t → (i : ℕ) → i < length t → length t ≤ mostTones
-      → sum i (startPower costs doublings t) + startPower costs doublings t i ≤ mostPower
+  pub power-room : PowersInRange (length t) costs doublings rests t → (i : ℕ) → i < length t → length t ≤ mostTones
+      → sum i (startPower costs doublings rests t) + startPower costs doublings rests t i ≤ mostPower
   unfolding sum
-  power-room R i il few = omega (arith, sum-at-most (suc i) (2 ^ 39) (startPower costs doublings t) (λ j jl. high j (omega arith)))
+  power-room R i il few = omega (arith, sum-at-most (suc i) (2 ^ 39) (startPower costs doublings rests t) (λ j jl. high j (omega arith)))
     where
-      high : (j : ℕ) → j < length t → startPower costs doublings t j ≤ 2 ^ 39
-      high j jl =
-          let s : ℕ = getD doublings j 0 * t ! j in
-          let under = lt-of-lt-of-le (shl-lt 24 s (R .cost-high j jl)) (pow-mono {i = 24 + s} {j = 39} (omega (arith, R .shift-high j jl))) in
-          omega (arith, under)
+      high : (j : ℕ) → j < length t → startPower costs doublings rests t j ≤ 2 ^ 39
+      high j jl = le-of-lt (power-high _ _ _ (t ! j) (R .cost-high j jl) (R .shift-high j jl) (R .rest-high j jl))
 
-  module _ {bits : List ℕ} {s : Totals} {i : ℕ} (C : Copied costs doublings t bits s i) where
+  module _ {bits : List ℕ} {s : Totals} {i : ℕ} (C : Copied costs doublings rests t bits s i) where
     -- one tone more is copied
-    pub copied-more : (b p : ℕ) → i < length t → i < mostTones → b ≡ t ! i → b ≤ 255 → p ≡ startPower costs doublings t i
-        → Copied costs doublings t (set bits i b) (record { bits = s .bits + b; power = s .power + p }) (i + 1)
+    pub copied-more : (b p : ℕ) → i < length t → i < mostTones → b ≡ t ! i → b ≤ 255 → p ≡ startPower costs doublings rests t i
+        → Copied costs doublings rests t (set bits i b) (record { bits = s .bits + b; power = s .power + p }) (i + 1)
     unfolding sum
     copied-more b p il low e small q = record {
       inside = omega arith;
@@ -70,7 +75,7 @@ module _ {costs doublings : List ℕ} {t : Table} where
     }
 
     -- all tones are copied
-    pub copied-stands : i ≡ length t → (limits : List ℕ) → StartsAt (arrays limits costs doublings) t (record { bits = bits; totals = s })
+    pub copied-stands : i ≡ length t → (limits : List ℕ) → StartsAt (arrays limits costs doublings rests) t (record { bits = bits; totals = s })
     copied-stands e limits T D R K = record {
       table = record { describes = D; rising = R; within = K; same-bits = λ j jl. sym (C .copied .front j (omega arith)) };
       sums = record {

@@ -7,8 +7,7 @@ use mathlib.Core.Option.{Option, none, some}
 use mathlib.Core.Path.{_≡_}
 use Prim.Native.Nat.{ℕ, zero, suc, _<_}
 use native.Mathlib.Decide.{decLt}
-use lib.ListN.{length, getD, replicate}
-use Rattle.sizes.specs.Sizes.{mostTones}
+use lib.ListN.{length, getD}
 use Rattle.steps.specs.Tones.{Tones, Rising, Table, _!_, noBits, KeepsLimits}
 use Rattle.line.specs.Arrays.{Arrays, Describes}
 use Rattle.running.specs.declared.Running.{Running}
@@ -36,12 +35,9 @@ abbrev pub aboveAt : Above → Option ℕ
 aboveAt Nowhere = none
 aboveAt (Tone i) = some i
 
--- The running table of no bits; it stands for the table of no bits, whatever rising tones some arrays describe.
-abbrev pub noBitsYet : Running
-noBitsYet = record { bits = replicate mostTones 0; totals = record { bits = 0; power = 0 } }
-
-abbrev pub StartsAtNone : Running → Type 0
-StartsAtNone r = (count : ℕ) (A : Arrays) (T : Tones) → Describes count A T → Rising T → Stands count A r T (noBits T)
+-- A running table stands for the table of no bits, whatever rising tones the arrays describe.
+abbrev pub StartsAtNone : (count : ℕ) → Arrays → Running → Type 0
+StartsAtNone count A r = (T : Tones) → Describes count A T → Rising T → Stands count A r T (noBits T)
 
 -- The running table that a starting table is copied into stands for it, whatever rising tones the arrays describe.
 abbrev pub StartsAt : Arrays → (start : List ℕ) → Running → Type 0

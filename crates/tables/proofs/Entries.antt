@@ -31,15 +31,15 @@ unfolding entriesBelow
 same-entries T U t u zero h = refl
 same-entries T U t u (suc n) h = rw (same-entries T U t u n (λ i l. h i (omega arith)), h n (omega arith))
 
--- tones by their costs and doublings alone
-abbrev pub plain : (costs doublings : List ℕ) → Tones
-plain costs doublings = record { count = 0; limit = λ i. 0; power = λ i b. powerIn (getD costs i 0) (getD doublings i 0) b }
+-- tones by their costs, doublings and rests alone
+abbrev pub plain : (costs doublings rests : List ℕ) → Tones
+plain costs doublings rests = record { count = 0; limit = λ i. 0; power = λ i b. powerIn (getD costs i 0) (getD doublings i 0) (getD rests i 0) b }
 
 -- they give the bytes of whatever table the arrays and the bits stand for
-pub plain-table-bytes : {count : ℕ} {limits costs doublings bits : List ℕ} {T : Tones} {t : Table}
-    → StandsFor count (arrays limits costs doublings) bits T t → entriesBelow (plain costs doublings) bits (T .count) ≡ tableBytes T t
-plain-table-bytes {count} {costs = costs} {doublings} {bits} {T = T} {t} S =
-    same-entries (plain costs doublings) T bits t (T .count) (λ i l.
+pub plain-table-bytes : {count : ℕ} {limits costs doublings rests bits : List ℕ} {T : Tones} {t : Table}
+    → StandsFor count (arrays limits costs doublings rests) bits T t → entriesBelow (plain costs doublings rests) bits (T .count) ≡ tableBytes T t
+plain-table-bytes {count} {costs = costs} {doublings} {rests} {bits} {T = T} {t} S =
+    same-entries (plain costs doublings rests) T bits t (T .count) (λ i l.
     let il : i < count = omega (arith, S .describes .same-count) in
     rw (S .describes .same-power i (t ! i) il (S .within .under i l), S .same-bits i il))
 

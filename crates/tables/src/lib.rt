@@ -21,22 +21,23 @@ fn put_tone(out: &mut [u8], at: usize, bits: u8, power: u64)
     bigendian::put_number(out, at + 1, 8, power);
 }
 
-// The table of so many tones with these costs and doublings, from the buffer's start on.
+// The table of so many tones with these costs, doublings and rests, from the buffer's start on.
 pub fn put_table(
     out: &mut [u8],
     count: usize,
     costs: &[u32; TONES],
     doublings: &[u8; TONES],
+    rests: &[u32; TONES],
     bits: &[u8; TONES],
 )
     requires { ⌜ count ≤ mostTones ⌝ }
-    requires { ⌜ PowersInRange count (now costs) (now doublings) (now bits) ⌝ }
+    requires { ⌜ PowersInRange count (now costs) (now doublings) (now rests) (now bits) ⌝ }
     requires { ⌜ bytesATone * count ≤ length (now out) ⌝ }
-    ensures { λ r. ⌜ ((limits : List ℕ) → WritesTable count (arrays limits (before costs) (before doublings)) (before bits) (before out) (after out)) ⌝ }
+    ensures { λ r. ⌜ ((limits : List ℕ) → WritesTable count (arrays limits (before costs) (before doublings) (before rests)) (before bits) (before out) (after out)) ⌝ }
 {
     let mut i: usize = 0;
     while i < count {
-        let power = line::power_at(costs[i], doublings[i], bits[i]);
+        let power = line::power_at(costs[i], doublings[i], rests[i], bits[i]);
         put_tone(out, TONE_BYTES * i, bits[i], power);
         i += 1;
     }

@@ -26,14 +26,24 @@ pub fn run(
     limits: &[u8; TONES],
     costs: &[u32; TONES],
     doublings: &[u8; TONES],
+    rests: &[u32; TONES],
 ) -> Ended
-    requires { ⌜ Runnable count (arrays (now limits) (now costs) (now doublings)) start ⌝ }
-    ensures { λ r. ⌜ RunsBy count (arraysBefore limits costs doublings) rule most budget start r ⌝ }
+    requires { ⌜ Runnable count (arrays (now limits) (now costs) (now doublings) (now rests)) start ⌝ }
+    ensures { λ r. ⌜ RunsBy count (arraysBefore limits costs doublings rests) rule most budget start r ⌝ }
 {
     let bits = start.bits;
     let mut free = [u64::MAX; TONES];
     let mut held = [u64::MAX; TONES];
-    ranks::fill_ranks(count, limits, costs, doublings, &bits, &mut free, &mut held);
+    ranks::fill_ranks(
+        count,
+        limits,
+        costs,
+        doublings,
+        rests,
+        &bits,
+        &mut free,
+        &mut held,
+    );
     let mut now = Stepped {
         running: start,
         progress: Progress::Moved,
@@ -47,6 +57,7 @@ pub fn run(
             limits,
             costs,
             doublings,
+            rests,
             &mut free,
             &mut held,
         );

@@ -8,13 +8,13 @@ use Rattle.arrays.proofs.fill_arrays.Statement.{statement}
 use Rattle.arrays.proofs.fill_arrays.Tie as tie
 
 abbrev Inv-loop : tie.InvT-loop
-Inv-loop s header places maps limits₀ costs₀ doublings₀ parts i₀ limits costs doublings i = FillingOf s header places maps limits costs doublings i
+Inv-loop s header places maps limits₀ costs₀ doublings₀ rests₀ parts i₀ limits costs doublings rests i = FillingOf s header places maps limits costs doublings rests i
 
 abbrev μ-loop : tie.MeasureT-loop
-μ-loop s header places maps limits₀ costs₀ doublings₀ parts i₀ limits costs doublings i = header .size - i
+μ-loop s header places maps limits₀ costs₀ doublings₀ rests₀ parts i₀ limits costs doublings rests i = header .size - i
 
 loop-holds : tie.Need-loop-holds Inv-loop μ-loop
-loop-holds c = filling-starts (λ i. c .before .before .before .before .shared-slice-known .given i .fits) (c .before .before .before .before .before .pre)
+loop-holds c = filling-starts (λ i. c .before .before .before .before .before .shared-slice-known .given i .fits) (c .before .before .before .before .before .before .pre)
 
 cast-tone : tie.Need-cast-tone Inv-loop μ-loop
 cast-tone c = omega (arith, size-high (c .before .before .loop .inv .index))
@@ -28,7 +28,7 @@ element-copy-out-steps-at c = omega (arith, size-high (c .before .before .before
 steps-at-requires : tie.Need-steps-at-requires Inv-loop μ-loop
 steps-at-requires c κs =
     let l = c .before .before .before .before in
-    rw (l .before .before .before .before .parts .ensures) (tone-in-range (l .loop .inv .index) _ (c .before .before .if1 .taken))
+    rw (l .before .before .before .before .before .parts .ensures) (tone-in-range (l .loop .inv .index) _ (c .before .before .if1 .taken))
 
 element-write-limits : tie.Need-element-write-limits Inv-loop μ-loop
 element-write-limits c = omega (arith, size-high (c .before .before .before .before .before .loop .inv .index))
@@ -42,6 +42,12 @@ element-write-costs c = omega (arith, size-high (c .before .before .before .befo
 element-write-doublings : tie.Need-element-write-doublings Inv-loop μ-loop
 element-write-doublings c = omega (arith, size-high (c .before .before .before .before .before .loop .inv .index))
 
+mul-rests : tie.Need-mul-rests Inv-loop μ-loop
+mul-rests c = record { fits = omega (arith, size-high (c .before .before .before .before .before .loop .inv .index)) }
+
+element-write-rests : tie.Need-element-write-rests Inv-loop μ-loop
+element-write-rests c = omega (arith, size-high (c .before .before .before .before .before .loop .inv .index))
+
 add-i : tie.Need-add-i Inv-loop μ-loop
 add-i c = record { fits = omega (arith, size-high (c .before .before .before .before .before .loop .inv .index)) }
 
@@ -51,7 +57,7 @@ loop-less c = omega arith
 loop-again : tie.Need-loop-again Inv-loop μ-loop
 loop-again c =
     let l = c .before .before .before .before .before in
-    filled-next (l .loop .inv) (c .before .before .before .if1 .taken) _ (c .before .before .is-silenced .ensures) _ (rw (l .before .before .before .before .parts .ensures) at (c .steps-at .ensures))
+    filled-next (l .loop .inv) (c .before .before .before .if1 .taken) _ (c .before .before .is-silenced .ensures) _ (rw (l .before .before .before .before .before .parts .ensures) at (c .steps-at .ensures))
 
 returns : tie.Need-returns Inv-loop μ-loop
 returns c = filled-line (c .before .before .loop .inv) (omega arith)
@@ -74,6 +80,8 @@ fill-arrays-spec =
     mul-costs
     element-write-costs
     element-write-doublings
+    mul-rests
+    element-write-rests
     add-i
     loop-less
     loop-again

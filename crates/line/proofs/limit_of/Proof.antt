@@ -3,7 +3,7 @@ use mathlib.Core.Path.{_≡_, refl}
 use Prim.Native.Nat.{_+_, _-_, _*_, _^_, _%_}
 use native.Mathlib.Omega.{arith}
 use borrow.Author.Needs.{needs}
-use Rattle.line.specs.Arrays.{powerIn}
+use Rattle.line.specs.Arrays.{powerOf}
 use Rattle.line.proofs.Tries.{Searched, Between, shift-at-most-2, one-more, next, next-fits, mask-ends, cap-ends}
 use Rattle.line.proofs.limit_of.Statement.{statement}
 use Rattle.line.proofs.limit_of.Tie as tie
@@ -23,8 +23,8 @@ searched c = record {
   shift = c .doublings .ensures;
 }
 
-power-at-requires : tie.Need-power-at-requires Inv-loop μ-loop
-power-at-requires c κs = (omega (arith, c .before .before .pre .0 .high), omega (arith, shift-at-most-2 (searched c)))
+power-of-requires : tie.Need-power-of-requires Inv-loop μ-loop
+power-of-requires c κs = (omega (arith, c .before .before .pre .0 .high), omega (arith, shift-at-most-2 (searched c)))
 
 loop-holds : tie.Need-loop-holds Inv-loop μ-loop
 loop-holds c =
@@ -37,15 +37,15 @@ shl-power c = omega (arith, shift-at-most-2 (searched (c .before .before .before
 add-power : tie.Need-add-power Inv-loop μ-loop
 add-power c =
     let a = c .before in
-    record { fits = next-fits (searched (a .before .before)) (a .loop .inv) (a .before .power-at .ensures) }
+    record { fits = next-fits (searched (a .before .before)) (a .loop .inv) (a .before .power-of .ensures) }
 
 -- what the turn tries
 power-tried : (c : tie.In-loop Inv-loop μ-loop) → (let a = c .before in
-    a .loop .power * 2 ^ a .before .before .doublings .result % 2 ^ 64 + a .before .power-at .result
-    ≡ powerIn (a .before .before .before .before .args .cost) (a .before .before .doublings .result) (a .loop .bits + 1))
+    a .loop .power * 2 ^ a .before .before .doublings .result % 2 ^ 64 + a .before .power-of .result
+    ≡ powerOf (a .before .before .before .before .args .cost) (a .before .before .doublings .result) (a .loop .bits + 1))
 power-tried c =
     let a = c .before in
-    next (searched (a .before .before)) (a .loop .inv) (a .before .power-at .ensures)
+    next (searched (a .before .before)) (a .loop .inv) (a .before .power-of .ensures)
 
 add-tries : tie.Need-add-tries Inv-loop μ-loop
 add-tries c =
@@ -88,7 +88,7 @@ limit-of-spec =
     μ-loop
     (λ c κs. search needs)
     (λ c κs. search needs)
-    power-at-requires
+    power-of-requires
     loop-holds
     (λ c. search needs)
     (λ c. search needs)

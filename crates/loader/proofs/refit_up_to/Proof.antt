@@ -9,20 +9,20 @@ use Rattle.loader.proofs.refit_up_to.Tie as tie
 
 refit-requires : tie.Need-refit-requires
 refit-requires c κs =
-    let k = c .before .before .before .before .before in
+    let k = c .before .before .before .before .before .before in
     some-tones (held (k .before .before .read-tones .ensures) (k .read2 .given .1))
 
 returns : tie.Need-returns
 unfolding refitBy
 returns c =
     let t = c .before .before .before in
-    let a = t .before .before .before .before .before .before .before .args in
+    let a = t .before .before .before .before .before .before .before .before .args in
     refit-refused (refitBy (a .most) (a .s .now) (a .start .now)) _ (not-loaded (refusal-is (t .read-tones .ensures) (c .before .read .given .1)) _)
 
 returns-2 : tie.Need-returns-2
 unfolding refitBy
 returns-2 c =
-    let k = c .before .before .before .before .before .before .before .before in
+    let k = c .before .before .before .before .before .before .before .before .before in
     on-held (held (k .before .before .read-tones .ensures) (k .read2 .given .1)) (RefitsAs _ _ _) (λ T budget. refitUpTo _ T budget _) (c .before .before .refit .ensures)
 
 pub refit-up-to-spec : {M : Type 1} → statement M

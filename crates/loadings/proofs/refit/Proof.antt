@@ -11,13 +11,13 @@ use Rattle.loadings.proofs.refit.Statement.{statement}
 use Rattle.loadings.proofs.refit.Tie as tie
 
 returns : tie.Need-returns
-returns c = λ T L. refit-refused (refitUpTo _ T _ _) _ (refit-short L _ _ _ (c .if1 .taken))
+returns c = λ T L. refit-refused (refitUpTo _ T _ _) _ (refit-short L _ _ (c .if1 .taken))
 
 returns-2 : tie.Need-returns-2
-returns-2 c = λ T L. refit-refused (refitUpTo _ T _ _) _ (refit-length L _ _ _ (c .before .if1 .left) (λ m. omega (arith, c .if2 .taken)))
+returns-2 c = λ T L. refit-refused (refitUpTo _ T _ _) _ (refit-length L _ _ (c .before .if1 .left) (λ m. omega (arith, c .if2 .taken)))
 
-cast-t23 : tie.Need-cast-t23
-cast-t23 c =
+cast-t24 : tie.Need-cast-t24
+cast-t24 c =
     let f = c .before .before .before in
     let L = f .before .before .before .before .before .pre .loadable in
     record { fits = omega (arith, first-tone L _ (f .before .if2 .left) _ (f .first-above .ensures) (c .before .above .given .1), L .in-range .count-high) }
@@ -49,7 +49,7 @@ returns-3 c = λ T L.
     let f = c .before .before .before in
     let k = f .before .before .before .before .before in
     refit-refused (refitUpTo (k .args .most) T (k .args .budget) (k .args .start .now)) _
-    (refit-above L _ _ _ (f .before .before .if1 .left) (f .before .if2 .left) (found-above L _ (f .before .if2 .left) _ (f .first-above .ensures) (c .before .above .given .1)))
+    (refit-above L _ _ (f .before .before .if1 .left) (f .before .if2 .left) (found-above L _ (f .before .if2 .left) _ (f .first-above .ensures) (c .before .above .given .1)))
 
 returns-4 : tie.Need-returns-4
 returns-4 c = λ T L.
@@ -58,7 +58,7 @@ returns-4 c = λ T L.
     let k = f .before .before .before .before .before in
     let m = f .before .if2 .left in
     let h = f .before .before .if1 .left in
-    let A : Arrays = arrays (k .args .limits .now) (k .args .costs .now) (k .args .doublings .now) in
+    let A : Arrays = arrays (k .args .limits .now) (k .args .costs .now) (k .args .doublings .now) (k .args .rests .now) in
     let S = start-stands {A = A} L _ m _ (f .first-above .ensures) (e .before .before .enum-told .given .1) (e .before .from-start .ensures (k .args .limits .now)) in
     let E = e .run .ensures T (k .args .start .now) S in
     refit-done {A = A} {ran = run (refitStep T (k .args .budget)) (k .args .most) (k .args .start .now)}
@@ -68,7 +68,7 @@ returns-4 c = λ T L.
       written = c .before .before .before .put-table .ensures (k .args .limits .now);
     })
     (refitUpTo (k .args .most) T (k .args .budget) (k .args .start .now))
-    (refit-fits {A = A} L _ _ _ h m (none-above {A = A} L _ m _ (f .first-above .ensures) (e .before .before .enum-told .given .1)))
+    (refit-fits {A = A} L _ _ h m (none-above {A = A} L _ m _ (f .first-above .ensures) (e .before .before .enum-told .given .1)))
     (E .counted)
 
 pub refit-spec : {M : Type 1} → statement M
@@ -80,7 +80,7 @@ refit-spec =
     returns-2
     (λ c κs. search needs)
     (λ c. search needs)
-    cast-t23
+    cast-t24
     (λ c. search needs)
     from-start-requires
     run-requires

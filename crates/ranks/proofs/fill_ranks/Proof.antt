@@ -9,12 +9,12 @@ use Rattle.ranks.proofs.fill_ranks.Statement.{statement}
 use Rattle.ranks.proofs.fill_ranks.Tie as tie
 
 abbrev Inv-loop : tie.InvT-loop
-Inv-loop count limits costs doublings bits free₀ held₀ i₀ free held i =
-    (i ≤ count) × Stored count i (freeRankAt (arrays limits costs doublings) bits) free
-    × Stored count i (heldRankAt (arrays limits costs doublings) bits) held
+Inv-loop count limits costs doublings rests bits free₀ held₀ i₀ free held i =
+    (i ≤ count) × Stored count i (freeRankAt (arrays limits costs doublings rests) bits) free
+    × Stored count i (heldRankAt (arrays limits costs doublings rests) bits) held
 
 abbrev μ-loop : tie.MeasureT-loop
-μ-loop count limits costs doublings bits free₀ held₀ i₀ free held i = count - i
+μ-loop count limits costs doublings rests bits free₀ held₀ i₀ free held i = count - i
 
 loop-holds : tie.Need-loop-holds Inv-loop μ-loop
 loop-holds c = let p = c .pre .1 .1 in (omega arith, stored-none (p .0), stored-none (p .1))
@@ -24,15 +24,15 @@ element-copy-out-put-ranks c = omega (arith, c .before .before .pre .0 .count-hi
 
 put-ranks-requires : tie.Need-put-ranks-requires Inv-loop μ-loop
 put-ranks-requires c κs =
-    let a = c .before .before .before .before .before .before .before in
+    let a = c .before .before .before .before .before .before .before .before in
     let i = a .loop .i in
     let p = a .before .pre in
     let l : i < a .before .args .count = omega arith in
-    (omega (arith, p .0 .count-high), (p .0 .cost-high i l, (p .0 .shift-high i l, p .1 .0 .under i l)))
+    (omega (arith, p .0 .count-high), (p .0 .cost-high i l, (p .0 .shift-high i l, (p .0 .steps-rise i l, p .1 .0 .under i l))))
 
 loop-again : tie.Need-loop-again Inv-loop μ-loop
 loop-again c =
-    let a = c .before .before .before .before .before .before .before .before in
+    let a = c .before .before .before .before .before .before .before .before .before in
     let e = c .put-ranks .ensures in
     let high = a .before .pre .0 .count-high in
     rw (e .0, e .1 .0)
@@ -51,6 +51,8 @@ fill-ranks-spec =
     μ-loop
     loop-holds
     element-copy-out-put-ranks
+    (λ c. search needs)
+    (λ c. search needs)
     (λ c. search needs)
     (λ c. search needs)
     (λ c. search needs)

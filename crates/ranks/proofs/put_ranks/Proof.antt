@@ -7,7 +7,9 @@ use Rattle.ranks.proofs.put_ranks.Tie as tie
 held-rank-requires : tie.Need-held-rank-requires
 held-rank-requires c κs =
     let a = c .before .before .before in
-    (a .pre .0, (a .pre .1 .0, le-trans (mul-le-mul-left (a .args .doublings) (a .pre .1 .1 .1)) (a .pre .1 .1 .0)))
+    let p = a .pre .1 in
+    let under = p .1 .1 .1 in
+    (a .pre .0, (p .0, (le-trans (mul-le-mul-left (a .args .doublings) under) (p .1 .0), λ h. p .1 .1 .0 (le-trans h under))))
 
 returns : tie.Need-returns
 returns c = (rw (c .before .free-rank .ensures), (rw (c .held-rank .ensures), (c .before .before .before .frees .given .0 .1, c .before .before .helds .given .0 .1)))

@@ -12,11 +12,11 @@ use Rattle.wholeruns.proofs.run.Statement.{statement}
 use Rattle.wholeruns.proofs.run.Tie as tie
 
 abbrev Inv-loop : tie.InvT-loop
-Inv-loop rule most budget count limits costs doublings free₀ held₀ now₀ moves₀ free held now moves =
-    Along count (arrays limits costs doublings) rule most budget (now₀ .running) (now .running) moves free held
+Inv-loop rule most budget count limits costs doublings rests free₀ held₀ now₀ moves₀ free held now moves =
+    Along count (arrays limits costs doublings rests) rule most budget (now₀ .running) (now .running) moves free held
 
 abbrev μ-loop : tie.MeasureT-loop
-μ-loop rule most budget count limits costs doublings free₀ held₀ now₀ moves₀ free held now moves =
+μ-loop rule most budget count limits costs doublings rests free₀ held₀ now₀ moves₀ free held now moves =
     most - moves
 
 fill-ranks-requires : tie.Need-fill-ranks-requires Inv-loop μ-loop
@@ -41,7 +41,7 @@ add-moves c =
 loop-again : tie.Need-loop-again Inv-loop μ-loop
 loop-again c =
     let ran = c .before .before .step in
-    let last = ran .last .1 .1 .1 .1 .1 .1 .1 in
+    let last = ran .last .1 .1 .1 .1 .1 .1 .1 .1 in
     let G = c .before .before .before .before .before .before .loop .inv in
     let test = c .before .before .before .before .before .loop-test .taken in
     along-moved G (ran .ensures .0) test (c .enum-told .given .1) {newFree = last .0} {newHeld = last .1 .0} (ran .ensures .1)

@@ -10,14 +10,14 @@ use Rattle.running.proofs.Running.give_up.Statement.{statement}
 use Rattle.running.proofs.Running.give_up.Tie as tie
 
 -- where the function begins
-abbrev entry : tie.After-put-ranks-arg5 → tie.Start
-entry c = c .before .before .before .before .before .before .before .before .before .before
+abbrev entry : tie.After-put-ranks-arg6 → tie.Start
+entry c = c .before .before .before .before .before .before .before .before .before .before .before
 
 put-ranks-requires : tie.Need-put-ranks-requires
 put-ranks-requires c κs =
     let P = entry c .pre in
     let I = P .in-range in
-    (omega (arith, P .tone, I .count-high), (I .cost-high _ (P .tone), (I .shift-high _ (P .tone), omega (arith, P .under))))
+    (omega (arith, P .tone, I .count-high), (I .cost-high _ (P .tone), (I .shift-high _ (P .tone), (I .steps-rise _ (P .tone), omega (arith, P .under)))))
 
 returns : tie.Need-returns
 returns c =
@@ -32,6 +32,8 @@ pub give-up-spec : {M : Type 1} → statement M
 give-up-spec =
     tie.close
     (tie.spec
+    (λ c. search needs)
+    (λ c. search needs)
     (λ c. search needs)
     (λ c. search needs)
     (λ c. search needs)

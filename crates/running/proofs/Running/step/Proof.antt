@@ -18,7 +18,7 @@ use Rattle.running.proofs.Running.step.Tie as tie
 
 -- the arrays that it was lent
 abbrev lent : tie.Start → Arrays
-lent s = arrays (s .args .limits .now) (s .args .costs .now) (s .args .doublings .now)
+lent s = arrays (s .args .limits .now) (s .args .costs .now) (s .args .doublings .now) (s .args .rests .now)
 
 -- a running table has bits for the most tones
 long : (s : tie.Start) → length (s .args .self .bits) ≡ mostTones

@@ -15,14 +15,14 @@ add-more : tie.Need-add-more
 add-more c = let P = c .before .pre in record { fits = omega (arith, limit-small (P .in-range) _ (P .tone), P .free) }
 
 -- where the function begins
-abbrev entry : tie.After-put-ranks-arg5 → tie.Start
-entry c = c .before .before .before .before .before .before .before .before .before .before
+abbrev entry : tie.After-put-ranks-arg6 → tie.Start
+entry c = c .before .before .before .before .before .before .before .before .before .before .before
 
 put-ranks-requires : tie.Need-put-ranks-requires
 put-ranks-requires c κs =
     let P = entry c .pre in
     let I = P .in-range in
-    (omega (arith, P .tone, I .count-high), (I .cost-high _ (P .tone), (I .shift-high _ (P .tone), omega (arith, P .free))))
+    (omega (arith, P .tone, I .count-high), (I .cost-high _ (P .tone), (I .shift-high _ (P .tone), (I .steps-rise _ (P .tone), omega (arith, P .free)))))
 
 returns : tie.Need-returns
 returns c =
@@ -39,6 +39,8 @@ take-spec =
     (tie.spec
     (λ c. search needs)
     add-more
+    (λ c. search needs)
+    (λ c. search needs)
     (λ c. search needs)
     (λ c. search needs)
     (λ c. search needs)
