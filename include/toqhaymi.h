@@ -20,9 +20,12 @@
  *         number of tones, 1 to 256. Its second gives the gap, in 1/256 (02) or
  *         in tenths of a decibel (08). Tones have whole numbers (04, 05) or, as
  *         a line analyser reads them, 32-bit IEEE floats, high byte first (09,
- *         0A).
+ *         0A). A tone may have a rest, the power that it sends where it carries
+ *         no bits (0B).
  * Table.  9 bytes a tone, from tone 0 up: its bits, then its power in 8 bytes,
- *         high byte first. At least 9 x N bytes.
+ *         high byte first. At least 9 x N bytes. The power of no bits is the
+ *         tone's rest: 0 where none is given, and 0 for a tone that is silenced
+ *         or not described. Total powers count rests.
  * Start.  A starting table: one byte of bits a tone. Exactly N bytes.
  * Tidy.   The tidy sheet. It is never longer than the sheet it comes from, so
  *         never than TOQHAYMI_LARGEST_TIDY.
@@ -39,7 +42,7 @@
  * the bytes of its table or tidy sheet, and of its answers: all bytes after
  * those stay as they were.
  *
- * Power, mask and budget are whole numbers of one unit, the caller's own.
+ * Power, mask, rest and budget are whole numbers of one unit, the caller's own.
  */
 #ifndef TOQHAYMI_H
 #define TOQHAYMI_H
@@ -52,9 +55,9 @@ extern "C" {
 #endif
 
 /* The version of the calls and of this header. */
-#define TOQHAYMI_VERSION "1.3.0"
+#define TOQHAYMI_VERSION "1.4.0"
 #define TOQHAYMI_VERSION_MAJOR 1
-#define TOQHAYMI_VERSION_MINOR 3
+#define TOQHAYMI_VERSION_MINOR 4
 #define TOQHAYMI_VERSION_PATCH 0
 
 /* The most stack that a call takes, in bytes. */
@@ -72,9 +75,9 @@ extern "C" {
 #define TOQHAYMI_TABLE_BYTES(tones) ((size_t)TOQHAYMI_BYTES_A_TONE * (size_t)(tones))
 
 /*
- * Why a call was refused. A place of 1 to 7, 12 and 13 counts bytes of the sheet
- * from 0. 1 is judged first, then 2 to 7, 12 and 13 as the sheet is read from
- * left to right, then 8 to 11 in number order.
+ * Why a call was refused. A place of 1 to 7 and 12 to 15 counts bytes of the
+ * sheet from 0. 1 is judged first, then 2 to 7 and 12 to 15 as the sheet is read
+ * from left to right, then 16, then 8 to 11 in number order.
  */
 enum toqhaymi_refusal {
     TOQHAYMI_ACCEPTED = 0,
@@ -103,7 +106,13 @@ enum toqhaymi_refusal {
     /* A float is not finite or not above zero. Place: its first byte. */
     TOQHAYMI_FLOAT_OUT_OF_RANGE = 12,
     /* Noise / gain is infinite, or the cost over 16776705. Place: the command's first float. */
-    TOQHAYMI_COST_OUT_OF_RANGE = 13
+    TOQHAYMI_COST_OUT_OF_RANGE = 13,
+    /* The tone of 0B is not described yet, or has had a 0B. Place: its tone operand. */
+    TOQHAYMI_TONE_CANNOT_TAKE = 14,
+    /* A rest is not below the tone's cost, or is above its mask. Place: its first byte. */
+    TOQHAYMI_REST_OUT_OF_RANGE = 15,
+    /* The rests of the tones not silenced add up to more than the budget. Place 0. */
+    TOQHAYMI_RESTS_OVER_BUDGET = 16
 };
 
 /* The two parts of what a call returned: refusal number and place. */
@@ -124,7 +133,7 @@ enum toqhaymi_refusal {
 /*
  * Reads a sheet.
  * Answers: N, the number of described tones, the number of silenced tones.
- * Refusals: 1 to 8, 12 and 13.
+ * Refusals: 1 to 8 and 12 to 16.
  */
 uint64_t toqhaymi_check(const uint8_t *sheet, size_t sheet_length,
                         uint8_t *answer, size_t answer_length);
@@ -132,7 +141,7 @@ uint64_t toqhaymi_check(const uint8_t *sheet, size_t sheet_length,
 /*
  * Loads the most bits that limits and budget allow, and writes the table.
  * Answers: total bits, total power.
- * Refusals: 1 to 8, 12 and 13.
+ * Refusals: 1 to 8 and 12 to 16.
  */
 uint64_t toqhaymi_load_most(const uint8_t *sheet, size_t sheet_length,
                             uint8_t *table, size_t table_length,
@@ -141,7 +150,7 @@ uint64_t toqhaymi_load_most(const uint8_t *sheet, size_t sheet_length,
 /*
  * Loads exactly target bits for the least power, and writes the table.
  * Answers: total bits, total power.
- * Refusals: 1 to 8 and 11 to 13.
+ * Refusals: 1 to 8 and 11 to 16.
  */
 uint64_t toqhaymi_load_target(const uint8_t *sheet, size_t sheet_length,
                               uint32_t target,
@@ -152,7 +161,7 @@ uint64_t toqhaymi_load_target(const uint8_t *sheet, size_t sheet_length,
  * Re-fits a starting table to the sheet, and writes the table it ends in. The
  * starting table must keep the limits; it may be above the budget.
  * Answers: total bits, total power, moves made.
- * Refusals: 1 to 10, 12 and 13.
+ * Refusals: 1 to 10 and 12 to 16.
  */
 uint64_t toqhaymi_refit(const uint8_t *sheet, size_t sheet_length,
                         const uint8_t *start, size_t start_length,
@@ -163,7 +172,7 @@ uint64_t toqhaymi_refit(const uint8_t *sheet, size_t sheet_length,
  * One step of the re-fit, with the re-fit's refusals and output. Its table may
  * still be above the budget.
  * Answers: total bits, total power, moves made: 1, or 0 if it was finished.
- * Refusals: 1 to 10, 12 and 13.
+ * Refusals: 1 to 10 and 12 to 16.
  */
 uint64_t toqhaymi_refit_step(const uint8_t *sheet, size_t sheet_length,
                              const uint8_t *start, size_t start_length,
@@ -173,9 +182,10 @@ uint64_t toqhaymi_refit_step(const uint8_t *sheet, size_t sheet_length,
 /*
  * Writes the same line as a tidy sheet: the gap by the command that the sheet
  * had, tones in rising order, each by its own command and with the same float
- * bits, then one silence command for each word that silences a tone.
+ * bits, and straight after it its rest, if that is not 0, then one silence
+ * command for each word that silences a tone.
  * Answers: the tidy sheet's length.
- * Refusals: 1 to 8, 12 and 13.
+ * Refusals: 1 to 8 and 12 to 16.
  */
 uint64_t toqhaymi_tidy(const uint8_t *sheet, size_t sheet_length,
                        uint8_t *tidy, size_t tidy_length,

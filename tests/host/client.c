@@ -1,6 +1,6 @@
 /*
  * A client in C: the sample line of document 01 by all six calls, a gap in tenths of
- * a decibel, tones that a line analyser read, and refusals.
+ * a decibel, tones that a line analyser read, tones with a rest, and refusals.
  */
 #include "toqhaymi.h"
 
@@ -22,7 +22,11 @@ static const uint8_t sheet[61] = {
 };
 
 /* The sample with a tone by 09, which has two numbers of 4 bytes where 04 has them of 2. */
-#define LONGEST (sizeof sheet + 4)
+#define WITH_09 (sizeof sheet + 4)
+
+/* The sample with a rest on each tone, by 0B. */
+#define REST_BYTES 6
+#define LONGEST (sizeof sheet + TONES * REST_BYTES)
 
 /* Lent to each call anew; a few bytes longer than need be. */
 static uint8_t table[TABLE_BYTES + 4];
@@ -241,7 +245,7 @@ static const uint8_t by_0a[15] = {0x0a, 0, 0x40, 0x40, 0, 0, 15, 0, 0, 0, 0, 0, 
 
 static void readings(void)
 {
-    uint8_t bytes[LONGEST];
+    uint8_t bytes[WITH_09];
 
     expect_sample(bytes, with_tone_0(bytes, by_04, sizeof by_04));
     expect_sample(bytes, with_tone_0(bytes, by_09, sizeof by_09));
@@ -257,8 +261,8 @@ static void tidy_readings(void)
     static const uint8_t tone_1[15] = {
         0x0a, 1, 0x3e, 0xaa, 0xaa, 0xab, 2, 0, 0, 0, 0, 0, 0, 0, 100
     };
-    static const uint64_t length[] = {LONGEST};
-    uint8_t untidy[LONGEST], due[LONGEST];
+    static const uint64_t length[] = {WITH_09};
+    uint8_t untidy[WITH_09], due[WITH_09];
 
     memcpy(due, sheet, 15);
     memcpy(due + 15, tone_0, 19);
@@ -279,7 +283,7 @@ static void tidy_readings(void)
 static void refused_reading(const uint8_t *command, size_t length, size_t at, uint32_t float_bits,
                             uint32_t number, uint32_t place)
 {
-    uint8_t changed[19], bytes[LONGEST];
+    uint8_t changed[19], bytes[WITH_09];
     size_t sheet_length, i;
 
     memcpy(changed, command, length);
@@ -319,6 +323,203 @@ static void refused_readings(void)
     refused_reading(by_0a, sizeof by_0a, 2, 0x4b7ffe01u, TOQHAYMI_OPERAND_OUT_OF_RANGE, 21);
 }
 
+/* 0B of tones of the sample, whose costs are 3, 5 and 1. */
+static const uint8_t rests_2_and_1[] = {0x0b, 0, 0, 0, 0, 2, 0x0b, 1, 0, 0, 0, 1};
+
+/* The sample at another budget, with commands before its end: its length. */
+static size_t with_commands(uint8_t *bytes, uint8_t budget, const uint8_t *commands, size_t length)
+{
+    memcpy(bytes, sheet, sizeof sheet - 1);
+    bytes[14] = budget;
+    memcpy(bytes + sizeof sheet - 1, commands, length);
+    bytes[sizeof sheet - 1 + length] = 0x07;
+    return sizeof sheet + length;
+}
+
+/* The first steps are 1, 4 and 3: from the rests, 3 in all, the total goes to 4, 7 and 11. */
+static void load_with_rests(void)
+{
+    static const uint8_t budgets[] = {3, 4, 7, 11, 39};
+    static const uint8_t bits[5][TONES] = {{0, 0, 0}, {1, 0, 0}, {1, 0, 1}, {1, 1, 1}, {3, 2, 1}};
+    static const uint64_t powers[5][TONES] = {
+        {2, 1, 0}, {3, 1, 0}, {3, 1, 3}, {3, 5, 3}, {21, 15, 3}
+    };
+    static const uint64_t totals[5][2] = {{0, 3}, {1, 4}, {2, 7}, {3, 11}, {6, 39}};
+    static const uint64_t counts[] = {3, 3, 0};
+    uint8_t bytes[LONGEST];
+    size_t length, i;
+
+    for (i = 0; i < sizeof budgets; i++) {
+        length = with_commands(bytes, budgets[i], rests_2_and_1, sizeof rests_2_and_1);
+        lend();
+        expect_answers("check", toqhaymi_check(bytes, length, answer, sizeof answer), 3, counts);
+        lend();
+        expect_answers("load_most",
+                       toqhaymi_load_most(bytes, length, table, sizeof table,
+                                          answer, sizeof answer), 2, totals[i]);
+        expect_table(bits[i], powers[i]);
+        lend();
+        expect_answers("load_target",
+                       toqhaymi_load_target(bytes, length, 0, table, sizeof table,
+                                            answer, sizeof answer), 2, totals[0]);
+        expect_table(bits[0], powers[0]);
+    }
+}
+
+/*
+ * From one bit on tone 2 at 7: tone 0's step of 1 takes the place of tone 2's of 3, which then
+ * fits again. From no bits at 3 nothing fits.
+ */
+static void refit_with_rests(void)
+{
+    static const uint8_t start[TONES] = {0, 0, 1}, none[TONES] = {0, 0, 0};
+    static const uint8_t exchanged[TONES] = {1, 0, 0}, both[TONES] = {1, 0, 1};
+    static const uint64_t powers[] = {3, 1, 0}, powers_of_both[] = {3, 1, 3}, rests[] = {2, 1, 0};
+    static const uint64_t one_move[] = {1, 4, 1}, two_moves[] = {2, 7, 2}, no_move[] = {0, 3, 0};
+    uint8_t bytes[LONGEST];
+    size_t length;
+
+    length = with_commands(bytes, 7, rests_2_and_1, sizeof rests_2_and_1);
+    lend();
+    expect_answers("refit",
+                   toqhaymi_refit(bytes, length, start, TONES, table, sizeof table,
+                                  answer, sizeof answer), 3, two_moves);
+    expect_table(both, powers_of_both);
+    lend();
+    expect_answers("refit_step",
+                   toqhaymi_refit_step(bytes, length, start, TONES, table, sizeof table,
+                                       answer, sizeof answer), 3, one_move);
+    expect_table(exchanged, powers);
+    length = with_commands(bytes, 3, rests_2_and_1, sizeof rests_2_and_1);
+    lend();
+    expect_answers("refit_step",
+                   toqhaymi_refit_step(bytes, length, none, TONES, table, sizeof table,
+                                       answer, sizeof answer), 3, no_move);
+    expect_table(none, rests);
+}
+
+/* Each rest comes straight after its tone, and that of 0 goes. */
+static void tidy_rests(void)
+{
+    static const uint8_t untidy_rests[] = {
+        0x0b, 1, 0, 0, 0, 1, 0x0b, 2, 0, 0, 0, 0, 0x0b, 0, 0, 0, 0, 2
+    };
+    static const uint64_t length[] = {sizeof sheet + 2 * REST_BYTES};
+    uint8_t untidy[LONGEST], due[sizeof sheet + 2 * REST_BYTES];
+    size_t untidy_length;
+
+    untidy_length = with_commands(untidy, 39, untidy_rests, sizeof untidy_rests);
+    memcpy(due, sheet, 30);
+    memcpy(due + 30, rests_2_and_1, REST_BYTES);
+    memcpy(due + 36, sheet + 30, 15);
+    memcpy(due + 51, rests_2_and_1 + REST_BYTES, REST_BYTES);
+    memcpy(due + 57, sheet + 45, 16);
+    lend();
+    expect_answers("tidy",
+                   toqhaymi_tidy(untidy, untidy_length, tidy, sizeof tidy, answer, sizeof answer),
+                   1, length);
+    expect("the tidy sheet's difference", memcmp(tidy, due, sizeof due) != 0, 0);
+    expect_untouched("a byte after the tidy sheet", tidy, sizeof due, sizeof tidy);
+}
+
+/* The sample at a budget with commands at byte 60, by every call. */
+static void refused_rest(uint8_t budget, const uint8_t *commands, size_t commands_length,
+                         uint32_t number, uint32_t place)
+{
+    static const uint8_t start[TONES] = {0, 2, 3};
+    uint8_t bytes[LONGEST];
+    size_t length = with_commands(bytes, budget, commands, commands_length);
+
+    lend();
+    expect_refusal("check", toqhaymi_check(bytes, length, answer, sizeof answer), number, place);
+    expect_refusal("load_most",
+                   toqhaymi_load_most(bytes, length, table, sizeof table, answer, sizeof answer),
+                   number, place);
+    expect_refusal("load_target",
+                   toqhaymi_load_target(bytes, length, 0, table, sizeof table,
+                                        answer, sizeof answer), number, place);
+    expect_refusal("refit",
+                   toqhaymi_refit(bytes, length, start, TONES, table, sizeof table,
+                                  answer, sizeof answer), number, place);
+    expect_refusal("refit_step",
+                   toqhaymi_refit_step(bytes, length, start, TONES, table, sizeof table,
+                                       answer, sizeof answer), number, place);
+    expect_refusal("tidy",
+                   toqhaymi_tidy(bytes, length, tidy, sizeof tidy, answer, sizeof answer),
+                   number, place);
+    /* No answer fits: 8 comes after all of these. */
+    expect_refusal("check", toqhaymi_check(bytes, length, answer, 0), number, place);
+}
+
+static void refused_rests(void)
+{
+    static const uint8_t again[] = {0x0b, 0, 0, 0, 0, 2, 0x0b, 0, 0, 0, 0, 1};
+    static const uint8_t after_0[] = {0x0b, 0, 0, 0, 0, 0, 0x0b, 0, 0, 0, 0, 0};
+    static const uint8_t not_on_line[] = {0x0b, 3, 0, 0, 0, 0};
+    static const uint8_t as_the_cost[] = {0x0b, 0, 0, 0, 0, 2, 0x0b, 1, 0, 0, 0, 5};
+    static const uint8_t four_bytes[] = {0x0b, 1, 1, 0, 0, 0};
+    static const uint8_t of_silenced[] = {0x06, 0, 0, 0, 0, 1, 0x0b, 0, 0, 0, 0, 3};
+
+    refused_rest(39, again, sizeof again, TOQHAYMI_TONE_CANNOT_TAKE, 67);
+    refused_rest(39, after_0, sizeof after_0, TOQHAYMI_TONE_CANNOT_TAKE, 67);
+    refused_rest(39, not_on_line, sizeof not_on_line, TOQHAYMI_TONE_NOT_ON_LINE, 61);
+    refused_rest(39, as_the_cost, sizeof as_the_cost, TOQHAYMI_REST_OUT_OF_RANGE, 68);
+    refused_rest(39, four_bytes, sizeof four_bytes, TOQHAYMI_REST_OUT_OF_RANGE, 62);
+    refused_rest(39, of_silenced, sizeof of_silenced, TOQHAYMI_REST_OUT_OF_RANGE, 68);
+    refused_rest(2, rests_2_and_1, sizeof rests_2_and_1, TOQHAYMI_RESTS_OVER_BUDGET, 0);
+}
+
+/* A tone that is silenced sends nothing, so its rest fits a budget of 0. */
+static void silenced_rest(void)
+{
+    static const uint8_t commands[] = {0x0b, 0, 0, 0, 0, 2, 0x06, 0, 0, 0, 0, 1};
+    static const uint64_t counts[] = {3, 3, 1}, totals[] = {0, 0}, powers[] = {0, 0, 0};
+    static const uint8_t bits[] = {0, 0, 0};
+    uint8_t bytes[LONGEST];
+    size_t length = with_commands(bytes, 0, commands, sizeof commands);
+
+    lend();
+    expect_answers("check", toqhaymi_check(bytes, length, answer, sizeof answer), 3, counts);
+    lend();
+    expect_answers("load_most",
+                   toqhaymi_load_most(bytes, length, table, sizeof table, answer, sizeof answer),
+                   2, totals);
+    expect_table(bits, powers);
+}
+
+/* A mask of 1 on tone 0, whose cost is 3: a rest of 1 is within it, and one of 2 is not. */
+static void rests_and_masks(void)
+{
+    static const uint64_t counts[] = {3, 3, 0};
+    static const uint8_t rest[REST_BYTES] = {0x0b, 0, 0, 0, 0, 1};
+    uint8_t bytes[LONGEST];
+    size_t length = with_commands(bytes, 39, rest, sizeof rest);
+
+    bytes[29] = 1;
+    lend();
+    expect_answers("check", toqhaymi_check(bytes, length, answer, sizeof answer), 3, counts);
+    bytes[65] = 2;
+    lend();
+    expect_refusal("check", toqhaymi_check(bytes, length, answer, sizeof answer),
+                   TOQHAYMI_REST_OUT_OF_RANGE, 62);
+}
+
+/* A rest before its tone is described, and of a tone that is not described at all. */
+static void rests_before_tones(void)
+{
+    uint8_t bytes[sizeof sheet + REST_BYTES];
+
+    memcpy(bytes, sheet, 30);
+    memcpy(bytes + 30, rests_2_and_1 + REST_BYTES, REST_BYTES);
+    memcpy(bytes + 36, sheet + 30, sizeof sheet - 30);
+    lend();
+    expect_refusal("check", toqhaymi_check(bytes, sizeof bytes, answer, sizeof answer),
+                   TOQHAYMI_TONE_CANNOT_TAKE, 31);
+    bytes[36] = 0x07;
+    expect_refusal("check", toqhaymi_check(bytes, 37, answer, sizeof answer),
+                   TOQHAYMI_TONE_CANNOT_TAKE, 31);
+}
+
 static void refusals(void)
 {
     static const uint8_t above[TONES] = {0, 3, 0};
@@ -354,6 +555,13 @@ int main(void)
     readings();
     tidy_readings();
     refused_readings();
+    load_with_rests();
+    refit_with_rests();
+    tidy_rests();
+    silenced_rest();
+    refused_rests();
+    rests_and_masks();
+    rests_before_tones();
     refusals();
     printf(wrong ? "some answers are wrong\n" : "all answers are right\n");
     return wrong;

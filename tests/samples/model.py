@@ -1,5 +1,5 @@
 #!/usr/bin/env python3
-"""A model of document 01 and of document 02's requests W1, W3 and W5, written from the papers and the readings of
+"""A model of document 01 and of document 02's requests W1, W3, W5 and W6, written from the papers and the readings of
 docs/DECISIONS.md: reading a sheet with its refusals, check, tidy, the limits, the loadings and the re-fit. Plain and slow; floats
 are worked out in whole numbers and fractions.
 
@@ -31,6 +31,7 @@ OPERANDS = {
     0x08: [("tenths", 1)],
     0x09: [("tone", 1), ("noise float", 4), ("gain float", 4), ("cap", 1), ("mask", 8)],
     0x0a: [("tone", 1), ("ratio float", 4), ("cap", 1), ("mask", 8)],
+    0x0b: [("tone", 1), ("rest", 4)],
 }
 
 # "N tones, 1 to 256", "256 to 65,535", "0 to 2^47", "1 to 65,535", "word 1 (0 to 7)", "one operand byte d from 0 to
@@ -104,12 +105,14 @@ def cost_of_floats(gap, floats):
 
 
 class Line:
-    """N, gap, budget, the described tones with what they carry, and the set of silenced tones. "Which it was", 02 or 08, "belongs
-    to the line": `tenths` is the d of 08, and None where 02 gave the gap."""
+    """N, gap, budget, the described tones with what they carry, their rests, and the set of silenced tones. "Which it was", 02 or
+    08, "belongs to the line": `tenths` is the d of 08, and None where 02 gave the gap. `rests` has none of 0: a tone with one is a
+    tone without."""
 
     def __init__(self):
         self.size = self.gap = self.tenths = self.budget = None
         self.tones = {}
+        self.rests = {}
         self.silenced = set()
 
     def same(self, other):
@@ -117,11 +120,25 @@ class Line:
 
 
 def allowed(commands_read):
-    """01, 02, 03 come first, each once, in that order, and 08 "may stand where 02 stands"; then any number of 04, 05, 06, and of 09
-    and 0A, which describe a tone too; then 07."""
+    """01, 02, 03 come first, each once, in that order, and 08 "may stand where 02 stands"; then any number of 04, 05, 06, of 09 and
+    0A, which describe a tone too, and of 0B; then 07."""
     if commands_read < 3:
         return [{0x01}, {0x02, 0x08}, {0x03}][commands_read]
-    return {0x04, 0x05, 0x06, 0x07, 0x09, 0x0a}
+    return {0x04, 0x05, 0x06, 0x07, 0x09, 0x0a, 0x0b}
+
+
+def cost_of(line, tone):
+    """The smallest whole number not below g × noise / (256 × gain); of floats by the request's sentence."""
+    command, *levels, _, _ = line.tones[tone]
+    if command in FLOATS:
+        return cost_of_floats(line.gap, tuple(levels))
+    noise, gain = levels
+    return -(-line.gap * noise // (256 * gain))
+
+
+def sent_at_rest(line, tone):
+    """The power at no bits: "the rest, 0 where none is given"; "a silenced tone sends nothing"."""
+    return 0 if tone in line.silenced else line.rests.get(tone, 0)
 
 
 def judge_float(line, command, name, values, place):
@@ -135,13 +152,31 @@ def judge_float(line, command, name, values, place):
             raise Refused(13, place - 4 * (len(FLOATS[command]) - 1))
 
 
-def judge(line, command, name, value, values, place):
-    """Refusals 4, 5, 6, 12, 13 of one operand, `values` holding it and those before it."""
+def judge_rest(line, tone, rest, place):
+    """Refusal 15: "the rest is not below the cost or is above the mask"."""
+    *_, mask = line.tones[tone]
+    if rest >= cost_of(line, tone) or rest > mask:
+        raise Refused(15, place)
+
+
+def judge_tone(line, had, command, tone, place):
+    """Refusals 5, 6 and 14 of a tone operand: 14 where the tone "is in range but not yet described or has had a 0B already"."""
+    if tone >= line.size:
+        raise Refused(5, place)
+    if command == 0x0b:
+        if tone not in line.tones or tone in had:
+            raise Refused(14, place)
+    elif tone in line.tones:
+        raise Refused(6, place)
+
+
+def judge(line, had, command, name, value, values, place):
+    """Refusals 4, 5, 6, 12 to 15 of one operand, `values` holding it and those before it, `had` the tones that have had a 0B."""
     if name == "tone":
-        if value >= line.size:
-            raise Refused(5, place)
-        if value in line.tones:
-            raise Refused(6, place)
+        judge_tone(line, had, command, value, place)
+        return
+    if name == "rest":
+        judge_rest(line, values["tone"], value, place)
         return
     if name == "map":
         if any(value >> k & 1 and 32 * values["word"] + k >= line.size for k in range(32)):
@@ -166,13 +201,16 @@ def act(line, command, values):
         line.tones[tone] = (command, *numbers)
     elif command == 0x06:
         line.silenced |= {32 * values["word"] + k for k in range(32) if values["map"] >> k & 1}
+    elif command == 0x0b and values["rest"] > 0:
+        line.rests[values["tone"]] = values["rest"]
 
 
-def read(sheet):
-    """The line of an accepted sheet; else Refused(number, place)."""
+def said(sheet):
+    """The line that the bytes of a sheet say; else Refused(number, place), of 1 to 7 and 12 to 15. A 0B is remembered "even of rest
+    0", by the reading alone."""
     if len(sheet) > 4096:
         raise Refused(1, 0)
-    line, at, commands = Line(), 0, 0
+    line, had, at, commands = Line(), set(), 0, 0
     while True:
         if at == len(sheet):
             raise Refused(2, len(sheet))
@@ -184,14 +222,25 @@ def read(sheet):
         at, values = at + 1, {}
         for name, width in OPERANDS[command]:
             values[name] = value = number(sheet[at:at + width])
-            judge(line, command, name, value, values, at)
+            judge(line, had, command, name, value, values, at)
             at += width
         act(line, command, values)
+        if command == 0x0b:
+            had.add(values["tone"])
         commands += 1
         if command == 0x07:
             if at < len(sheet):
                 raise Refused(7, at)
             return line
+
+
+def read(sheet):
+    """The line of an accepted sheet; else Refused(number, place). Refusal 16: "rests of unsilenced tones add up to more than the
+    budget, place 0, in every call that reads a sheet, after 7 and before 8"."""
+    line = said(sheet)
+    if sum(sent_at_rest(line, tone) for tone in line.rests) > line.budget:
+        raise Refused(16, 0)
+    return line
 
 
 def check(sheet):
@@ -200,13 +249,16 @@ def check(sheet):
 
 
 def tidy_form(line):
-    """"The tidy form keeps whichever command the sheet had", and each tone its own. "Tidying keeps the float bits"."""
+    """"The tidy form keeps whichever command the sheet had", and each tone its own. "Tidying keeps the float bits", and "puts 0B
+    straight after its tone and drops one whose rest is 0", which the line does not have."""
     out = b"\x01" + line.size.to_bytes(2, "big")
     out += b"\x02" + line.gap.to_bytes(2, "big") if line.tenths is None else bytes([8, line.tenths])
     out += b"\x03" + line.budget.to_bytes(8, "big")
     for tone in sorted(line.tones):
         command, *numbers = line.tones[tone]
         out += bytes([command, tone]) + b"".join(n.to_bytes(w, "big") for n, (_, w) in zip(numbers, OPERANDS[command][1:]))
+        if tone in line.rests:
+            out += bytes([0x0b, tone]) + line.rests[tone].to_bytes(4, "big")
     for word in range(8):
         joined = sum(1 << k for k in range(32) if 32 * word + k in line.silenced)
         if joined:
@@ -238,17 +290,13 @@ class Loading:
         self.powers = [[self.power(tone, b) for b in range(self.limits[tone] + 1)] for tone in self.tones]
 
     def cost(self, tone):
-        """The smallest whole number not below g × noise / (256 × gain); of floats by the request's sentence."""
-        command, *levels, _, _ = self.line.tones[tone]
-        if command in FLOATS:
-            return cost_of_floats(self.line.gap, tuple(levels))
-        noise, gain = levels
-        return -(-self.line.gap * noise // (256 * gain))
+        return cost_of(self.line, tone)
 
     def power(self, tone, bits):
-        """Pair w × (2^b - 1), single w × (4^b - 1). No bits, no power."""
+        """Pair w × (2^b - 1), single w × (4^b - 1). "The power at no bits becomes the rest"; the others stay, so that "the first step
+        shrinks by it"."""
         if bits == 0:
-            return 0
+            return sent_at_rest(self.line, tone)
         return self.cost(tone) * (GROWTH[self.line.tones[tone][0]] ** bits - 1)
 
     def limit(self, tone):
@@ -588,6 +636,9 @@ def loading_selftest():
             kind = dice.choice([4, 5])
             line.tones[tone] = (kind, dice.randint(1, 6), dice.randint(1, 3), dice.randint(0, CAPS[kind][1]), dice.randint(0, 300))
         line.silenced = set(dice.sample(range(line.size), dice.randint(0, line.size // 2)))
+        for tone in line.tones:
+            line.rests[tone] = dice.randint(0, min(cost_of(line, tone) - 1, line.tones[tone][-1]))
+        line.budget += sum(line.rests.values())
         loading = Loading(line)
         table = [dice.randint(0, limit) for limit in loading.limits]
         held = [loading.step(t, b) for t in loading.tones for b in range(table[t])]
@@ -681,12 +732,66 @@ def readings_selftest():
     assert changed(16, "03" + "00000000") == (5, 16) and changed(35, "00" + "00000000") == (6, 35)
 
 
+def rested(budget, rest_0=2, rest_1=1, after=b""):
+    """The sample line with a rest on tone 0 and on tone 1, straight after each, and what else stands before the end."""
+    rests = [bytes([0x0b, tone]) + rest.to_bytes(4, "big") for tone, rest in enumerate((rest_0, rest_1))]
+    return sample(budget)[:30] + rests[0] + SAMPLE[30:45] + rests[1] + SAMPLE[45:60] + after + b"\x07"
+
+
+def rests_selftest():
+    # "The power at no bits becomes the rest, 0 where none is given, and the first step shrinks by it".
+    line = loading_of(rested(39))
+    assert line.powers == [[2, 3, 9, 21, 45, 93], [1, 5, 15], [0, 3, 15, 63]] and line.limits == [5, 2, 3]
+    assert [line.step(tone, 0)[0] for tone in range(3)] == [1, 4, 3] and line.step(0, 1)[0] == 6
+    # "Tables of no bits, target 0 and every sum include rests".
+    most = {3: ([0, 0, 0], 3), 4: ([1, 0, 0], 4), 7: ([1, 0, 1], 7), 11: ([1, 1, 1], 11), 38: ([2, 2, 1], 27), 39: ([3, 2, 1], 39)}
+    for budget, (table, power) in most.items():
+        assert loading_of(rested(budget)).adding() == table
+        assert call("most", None, rested(budget), 27)[0] == (sum(table), power)
+    assert call("target", 0, rested(3), 27) == ((0, 3), bytes([0] * 8 + [2] + [0] * 8 + [1] + [0] * 9))
+    assert call("refit", bytes([0, 2, 3]), rested(39), 27)[0] == (6, 39, 3) and loading_of(rested(3)).refit([0, 2, 3]) == ([0, 0, 0], 7)
+    # "A silenced tone sends nothing", and its rest is not counted by 16, wherever it is silenced.
+    silence = bytes.fromhex("060000000001")
+    assert loading_of(rested(3, after=silence)).powers == [[0], [1, 5, 15], [0, 3, 15, 63]]
+    assert [refusal(rested(budget, after=silence)) for budget in (1, 0)] == [(0, 0), (16, 0)]
+    assert refusal(sample(1)[:15] + silence + rested(1)[15:]) == (0, 0)
+    # 16 "in every call that reads a sheet, after 7 and before 8"; 7 before it.
+    for words in (("most", None), ("target", 0), ("refit", b""), ("step", b"\xff")):
+        assert refused_call(*words, rested(2), 0) == (16, 0)
+    assert refused_limits(rested(2), 0) == refused_tidy(rested(2), 0) == refusal(rested(2)) == (16, 0)
+    assert refusal(rested(2) + b"\0") == (7, 73) and refusal(rested(2)[:72]) == (2, 72) and refused_tidy(rested(3), 72) == (8, 0)
+    # 15 "the rest is not below the cost or is above the mask, placed at the rest", of silenced tones too.
+    assert [refusal(rested(39, rest)) for rest in (2, 3, 2**32 - 1)] == [(0, 0), (15, 32), (15, 32)]
+    assert [refusal(rested(39, 2, rest, silence)) for rest in (4, 5)] == [(0, 0), (15, 53)]
+    assert refusal(sample(39)[:15] + silence + rested(39, 3)[15:]) == (15, 38)
+    low = SAMPLE[:29] + b"\2" + rested(39, 2)[30:]
+    assert refusal(low) == (0, 0) and refusal(low[:29] + b"\1" + low[30:]) == (15, 32)
+    # 14 "the tone is in range but not yet described or has had a 0B already, even of rest 0, placed at the tone"; 5 before it.
+    rest = bytes.fromhex("0b00ffffffff")
+    assert refusal(SAMPLE[:15] + rest + SAMPLE[15:]) == (14, 16) and refusal(SAMPLE[:15] + b"\x0b\3" + rest[2:] + SAMPLE[15:]) == (5, 16)
+    assert [refusal(rested(39, first, 1, rest)) for first in (0, 2)] == [(14, 73), (14, 73)]
+    # "Tidying puts 0B straight after its tone and drops one whose rest is 0".
+    assert tidy(rested(39), 73) == rested(39) and tidy(rested(39, 0, 0), 61) == SAMPLE
+    assert tidy(rested(39, 0), 67) == SAMPLE[:45] + bytes.fromhex("0b0100000001") + SAMPLE[45:]
+    assert tidy(SAMPLE[:60] + rested(39)[51:57] + rested(39)[30:36] + silence + b"\7", ROOM) == rested(39, after=silence)
+    # A line with a rest of 0 and one without are the same.
+    assert read(rested(39, 0, 0)).same(read(SAMPLE)) and not read(rested(39)).same(read(SAMPLE))
+
+
+def refused_tidy(*words):
+    try:
+        tidy(*words)
+    except Refused as r:
+        return r.args
+
+
 def selftest():
     loading_selftest()
     limits_selftest()
     tenths_selftest()
     floats_selftest()
     readings_selftest()
+    rests_selftest()
     assert len(SAMPLE) == 61
     # "Gap 256; tone 0 pair, noise 3, cap 15; tone 1 pair, noise 5, cap 2; tone 2 single, noise 1, cap 7; gains 1,
     # masks 100"; "the sample at 39".
@@ -698,7 +803,7 @@ def selftest():
     assert refusal(b"") == (2, 0)
     # "Bytes in all".
     totals = {c: 1 + sum(w for _, w in ops) for c, ops in OPERANDS.items()}
-    assert totals == {1: 3, 2: 3, 3: 9, 4: 15, 5: 15, 6: 6, 7: 1, 8: 2, 9: 19, 10: 15}
+    assert totals == {1: 3, 2: 3, 3: 9, 4: 15, 5: 15, 6: 6, 7: 1, 8: 2, 9: 19, 10: 15, 11: 6}
     # "tidying a tidy sheet returns it": the sample is tidy.
     assert tidy(SAMPLE, 61) == SAMPLE and tidy(SAMPLE, ROOM) == SAMPLE
     # "at most 4,096 bytes".
@@ -727,11 +832,19 @@ def selftest():
             commands.append(bytes([6, word]) + (dice.getrandbits(32) & dice.getrandbits(32) & ((1 << within) - 1)).to_bytes(4, "big"))
         dice.shuffle(commands)
         gap = dice.choice([b"\x02" + dice.randint(256, 65535).to_bytes(2, "big"), bytes([8, dice.randint(0, 240)])])
-        sheet = b"\x01" + size.to_bytes(2, "big") + gap + SAMPLE[6:15] + b"".join(commands) + b"\x07"
+        start = b"\x01" + size.to_bytes(2, "big") + gap + SAMPLE[6:15]
+        line = read(start + b"".join(commands) + b"\x07")
+        # Rests anywhere after their tones; at most 9 of at most 4, which the budget 39 allows.
+        rests = {tone: dice.randint(0, min(cost_of(line, tone) - 1, numbers[-1], 4)) for tone, numbers in line.tones.items() if tone % 3}
+        for tone, rest in rests.items():
+            own = next(i for i, c in enumerate(commands) if c[0] in CAPS and c[1] == tone)
+            commands.insert(dice.randint(own + 1, len(commands)), bytes([0x0b, tone]) + rest.to_bytes(4, "big"))
+        sheet = start + b"".join(commands) + b"\x07"
         out = tidy(sheet, ROOM)
+        assert read(out).rests == {tone: rest for tone, rest in rests.items() if rest > 0}
         assert out[3:].startswith(gap) and len(out) <= len(sheet)
         assert read(out).same(read(sheet)) and tidy(out, len(out)) == out and check(out) == check(sheet)
-        assert set(read(out).tones) == {c[1] for c in commands if c[0] != 6}
+        assert set(read(out).tones) == {c[1] for c in commands if c[0] in CAPS}
 
 
 if __name__ == "__main__":

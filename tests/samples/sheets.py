@@ -47,25 +47,30 @@ def bytes_of(sheet):
     return model.bytes_of(sheet) if isinstance(sheet, str) else sheet
 
 
-def add(sheet, answer):
-    """`answer` is (number, place) of a refusal, or (N, described, silenced)."""
+def add(sheet, answer, tidied=None):
+    """`answer` is (number, place) of a refusal, (N, described, silenced), or None where none is noted; `tidied` the tidy form, where
+    it is."""
     global SHEETS
     SHEETS += 1
     try:
         got = model.check(bytes_of(sheet))
     except model.Refused as r:
         got = r.args
-    assert got == answer, (spelled(sheet)[:200], got, answer)
+    assert answer is None or got == answer, (spelled(sheet)[:200], got, answer)
+    assert tidied is None or model.tidy(bytes_of(sheet), model.ROOM) == tidied, spelled(sheet)
     assert model.bytes_of(spelled(sheet)) == bytes_of(sheet)[:model.ROOM], spelled(sheet)
     ROWS.append(spelled(sheet))
 
 
-def loading(word, argument, text, sheet, answer):
-    """`answer` is (number, place) of a refusal, the bits of a table, (bits, moves) of a re-fit, or None where none is noted."""
+def loading(word, argument, text, sheet, answer, powers):
+    """`answer` is (number, place) of a refusal, the bits of a table, (bits, moves) of a re-fit, or None where none is noted; `powers`
+    those of the tones, where they are noted."""
     global LOADINGS
     LOADINGS += 1
     try:
         answers, table = model.call(word, argument, bytes_of(sheet), model.ROOM)
+        sent = [model.number(table[i + 1:i + 9]) for i in range(0, len(table), 9)]
+        assert powers is None or (sent, answers[1]) == (powers, sum(powers)), (word, argument, spelled(sheet)[:200], sent, powers)
         got = list(table[::9])
         got = (got, answers[2]) if len(answers) == 3 else got
     except model.Refused as r:
@@ -90,21 +95,21 @@ def limited(sheet, answer=None):
     ROWS.append("limits / " + spelled(sheet))
 
 
-def most(sheet, answer=None):
-    return loading("most", None, "", sheet, answer)
+def most(sheet, answer=None, powers=None):
+    return loading("most", None, "", sheet, answer, powers)
 
 
-def target(bits, sheet, answer=None):
-    return loading("target", bits, "%d " % bits, sheet, answer)
+def target(bits, sheet, answer=None, powers=None):
+    return loading("target", bits, "%d " % bits, sheet, answer, powers)
 
 
-def refit(start, sheet, answer=None, word="refit"):
+def refit(start, sheet, answer=None, powers=None, word="refit"):
     text = start if isinstance(start, str) else hexed(bytes(start), " ") or "-"
-    return loading(word, model.bytes_of(text), text + " ", sheet, answer)
+    return loading(word, model.bytes_of(text), text + " ", sheet, answer, powers)
 
 
-def step(start, sheet, answer=None):
-    return refit(start, sheet, answer, "step")
+def step(start, sheet, answer=None, powers=None):
+    return refit(start, sheet, answer, powers, "step")
 
 
 def size(n=3):
@@ -144,6 +149,11 @@ def reading(number, *floats, cap=5, mask=100):
     """09 of two floats, noise and gain, or 0A of one, their ratio; each by its bits."""
     return (bytes([0x09 if len(floats) == 2 else 0x0a, number]) + b"".join(bits.to_bytes(4, "big") for bits in floats) + bytes([cap])
             + mask.to_bytes(8, "big"))
+
+
+def at_rest(number, power):
+    """0B: what a tone sends at no bits."""
+    return bytes([0x0b, number]) + power.to_bytes(4, "big")
 
 
 def float_of(value):
@@ -247,8 +257,8 @@ for byte in (0, 1, 3, 4, 5, 6, 7, 9, 255):
 group("the third is not 03")
 for byte in (0, 1, 2, 4, 5, 6, 7, 255):
     add(size() + gap() + bytes([byte]) + budget() + END, (3, 6))
-group("a later one is none of 04 to 07, 09 and 0a")
-for byte in (0, 1, 2, 3, 8, 0x0b, 0x40, 255):
+group("a later one is none of 04 to 07 and 09 to 0b")
+for byte in (0, 1, 2, 3, 8, 0x0c, 0x40, 255):
     add(head() + bytes([byte]) + END, (3, 15))
 add(head() + size() + END, (3, 15))
 add(head() + pair(1) + budget() + END, (3, 30))
@@ -881,14 +891,14 @@ for first in ways:
         if first in ways[2:] or second in ways[2:]:
             add(head() + first + second + END, (6, 16 + len(first)))
 add(head() + ways[2] + single(0) + silence(0, 2) + reading(2, ONE) + ways[3] + END, (6, 71))
-group("W5: 09 and 0a first, in place of 02, in place of 03, after the end; 0b after the first three")
+group("W5: 09 and 0a first, in place of 02, in place of 03, after the end; 0c after the first three")
 for command in (reading(1, THREE, ONE), reading(1, THREE)):
     add(command + head() + END, (3, 0))
     add(size() + command + budget() + END, (3, 3))
     add(size() + gap() + command + END, (3, 6))
     add(size() + tenths(100) + command + END, (3, 5))
     add(head() + END + command, (7, 16))
-add(head() + b"\x0b" + reading(1, THREE)[1:] + END, (3, 15))
+add(head() + b"\x0c" + reading(1, THREE)[1:] + END, (3, 15))
 group("W5: the places after 08 are one less: 12, 13, 4, 6")
 add(in_tenths(100, head() + reading(1, ONE, 0) + END), (12, 20))
 add(in_tenths(100, head() + reading(1, float_of(1677671), ONE) + END), (13, 16))
@@ -1075,9 +1085,433 @@ most(wide(256 * 32767 * 16776705, LARGEST_COST_RATIOS, 65535), [15] * 256)
 most(wide(256 * 32767 * 16776705 - 1, LARGEST_COST_RATIOS, 65535), [15] * 255 + [14])
 most(wide(3000000, "(04 ++ 01== 0020 0f %s 05 ++ 01== 000a 07 %s 0a ++ 41==0000 0f %s)*85" % (WIDE, WIDE, WIDE)))
 
+# The sample line with a rest of 2 on tone 0 and of 1 on tone 1, by hand. Powers of no bits, one, two, ..: 2, 3, 9, 21, 45, 93 on tone 0;
+# 1, 5, 15 on tone 1; 0, 3, 15, 63 on tone 2. No bits send 3. The steps in their order, and the total once each is taken:
+#   step   1  3  4  6 10 12 12 24  48  48
+#   tone   0  2  1  0  1  0  2  0   0   2
+#   total  4  7 11 17 27 39 51 75 123 171
+rested = model.rested
+assert ends(rested(3)) == [4, 7, 11, 17, 27, 39, 51, 75, 123, 171]
+
+group("W6: most bits of the sample line with a rest of 2 on tone 0 and 1 on tone 1: 16 at 0, 1, 2; no bits at 3; then to 171 and 2^47")
+for b in (0, 1, 2):
+    most(rested(b), (16, 0))
+for b, bits, powers in [
+        (3, [0, 0, 0], [2, 1, 0]), (4, [1, 0, 0], [3, 1, 0]), (6, [1, 0, 0], [3, 1, 0]), (7, [1, 0, 1], [3, 1, 3]),
+        (10, [1, 0, 1], [3, 1, 3]), (11, [1, 1, 1], [3, 5, 3]), (17, [2, 1, 1], [9, 5, 3]), (38, [2, 2, 1], [9, 15, 3]),
+        (39, [3, 2, 1], [21, 15, 3]), (51, [3, 2, 2], [21, 15, 15]), (170, [5, 2, 2], [93, 15, 15]), (171, [5, 2, 3], [93, 15, 63]),
+        (TOP, [5, 2, 3], [93, 15, 63])]:
+    most(rested(b), bits, powers)
+group("W6: its targets: 0 at 3, 39, 2^47, 16 at 2; 1 at 3 and 4; 3 at 10 and 11; 6 at 38 and 39; 10 at 171; 11; 2^32 - 1")
+for b in (3, 39, TOP):
+    target(0, rested(b), [0, 0, 0], [2, 1, 0])
+target(0, rested(2), (16, 0))
+target(1, rested(3), (11, 0))
+target(1, rested(4), [1, 0, 0], [3, 1, 0])
+target(3, rested(10), (11, 0))
+target(3, rested(11), [1, 1, 1], [3, 5, 3])
+target(6, rested(38), (11, 0))
+target(6, rested(39), [3, 2, 1], [21, 15, 3])
+target(10, rested(171), [5, 2, 3], [93, 15, 63])
+target(11, rested(TOP), (11, 0))
+target(LARGEST, rested(3), (11, 0))
+# From 0, 2, 3, which sends 80: h is tone 2's 48 and f tone 0's 1, exchange; h tone 2's 12 and f tone 0's 6, exchange; at 39, h is tone
+# 1's 10 and f tone 0's 12, which fits 27; then h is tone 0's 12, f tone 2's 12, which does not fit 39.
+group("W6: its re-fit from 0, 2, 3 at 39: three moves; its steps, and a fourth that is finished")
+refit([0, 2, 3], rested(39), ([3, 2, 1], 3), [21, 15, 3])
+for start, end, powers in [([0, 2, 3], ([1, 2, 2], 1), [3, 15, 15]), ([1, 2, 2], ([2, 2, 1], 1), [9, 15, 3]),
+                           ([2, 2, 1], ([3, 2, 1], 1), [21, 15, 3]), ([3, 2, 1], ([3, 2, 1], 0), [21, 15, 3])]:
+    step(start, rested(39), end, powers)
+# From 2, 2, 1 on, at 3, the held steps 10, 6, 4, 3 and 1 are given up.
+group("W6: at 3 from 0, 2, 3, seven moves; from the full table; from no bits, at 3 and at 4")
+refit([0, 2, 3], rested(3), ([0, 0, 0], 7), [2, 1, 0])
+refit([5, 2, 3], rested(3), ([0, 0, 0], 10), [2, 1, 0])
+for b, end, powers in [(3, ([0, 0, 0], 0), [2, 1, 0]), (4, ([1, 0, 0], 1), [3, 1, 0])]:
+    refit([0, 0, 0], rested(b), end, powers)
+    step([0, 0, 0], rested(b), end, powers)
+group("W6: above the budget by the rest of a tone at no bits: 1, 0, 0 at 3; exchanges for a first step: from 0, 0, 1; 0, 1, 0; 0, 2, 0")
+step([1, 0, 0], rested(3), ([0, 0, 0], 1), [2, 1, 0])
+step([0, 0, 1], rested(3), ([1, 0, 0], 1), [3, 1, 0])
+refit([0, 0, 1], rested(3), ([0, 0, 0], 2), [2, 1, 0])
+refit([0, 0, 1], rested(6), ([1, 0, 0], 1), [3, 1, 0])
+step([0, 1, 0], rested(5), ([1, 0, 0], 1), [3, 1, 0])
+step([0, 2, 0], rested(39), ([1, 1, 0], 1), [3, 5, 0])
+group("W6: its limits are those of the sample line; 16 at 2; a start above them is 10, after 9")
+limited(rested(3), "5:mask 2:cap 3:mask")
+limited(rested(2), (16, 0))
+refit([5, 3, 4], rested(3), (10, 1))
+refit([5, 3], rested(3), (9, 0))
+group("W6: one rest of 0 or both: the sample line's own table of no bits at 2; at 3 and 4")
+for rests, b, bits, powers in [((0, 0), 2, [0, 0, 0], [0, 0, 0]), ((0, 0), 3, [1, 0, 0], [3, 0, 0]), ((0, 1), 2, [0, 0, 0], [0, 1, 0]),
+                               ((0, 1), 4, [1, 0, 0], [3, 1, 0]), ((2, 0), 2, [0, 0, 0], [2, 0, 0]), ((2, 0), 3, [1, 0, 0], [3, 0, 0])]:
+    most(rested(b, *rests), bits, powers)
+
+# The first step of the second tone is 5, 4, 3 by its rest, that of the first 4.
+group("W6: the order of steps: pairs of costs 4 and 5 at 5, the second with a rest of 0, 1, 2; the same tones in the other order")
+for power, bits, powers in [(0, [1, 0], [4, 0]), (1, [1, 0], [4, 1]), (2, [0, 1], [0, 5])]:
+    most(line(2, 5, pair(0, 4), pair(1, 5), at_rest(1, power)), bits, powers)
+for power, bits, powers in [(0, [0, 1], [0, 4]), (1, [1, 0], [5, 0]), (2, [1, 0], [5, 0])]:
+    most(line(2, 5, pair(0, 5), pair(1, 4), at_rest(0, power)), bits, powers)
+refit([0, 1], line(2, 5, pair(0, 5), pair(1, 4), at_rest(0, 1)), ([1, 0], 1), [5, 0])
+refit([1, 0], line(2, 5, pair(0, 4), pair(1, 5), at_rest(1, 1)), ([1, 0], 0), [4, 1])
+refit([1, 0], line(2, 5, pair(0, 4), pair(1, 5), at_rest(1, 2)), ([0, 1], 1), [0, 5])
+# Powers 0, 10, 30 and 8, 12, 36: with the rests, a bit on the second tone sends 12 in all, on the first 18.
+group("W6: best with rests counted: a pair of cost 10, and one of cost 12 with a rest of 8, at 8, 11, 12, 18, 21, 22; target 1; re-fit")
+uneven = [pair(0, 10), pair(1, 12), at_rest(1, 8)]
+for b, bits, powers in [(8, [0, 0], [0, 8]), (11, [0, 0], [0, 8]), (12, [0, 1], [0, 12]), (18, [0, 1], [0, 12]), (21, [0, 1], [0, 12]),
+                        (22, [1, 1], [10, 12])]:
+    most(line(2, b, *uneven), bits, powers)
+target(1, line(2, 18, *uneven), [0, 1], [0, 12])
+refit([1, 0], line(2, 18, *uneven), ([0, 1], 1), [0, 12])
+step([1, 0], line(2, 17, *uneven), ([0, 1], 1), [0, 12])
+group("W6: a rest one below the cost 100: the first step is 1 on a pair, 201 on a single; 98 is 16")
+for kind, first in [(4, 100), (5, 300)]:
+    resting = tone(kind, 0, 100, 1, 1, 1000) + at_rest(0, 99)
+    for b, bits, powers in [(98, (16, 0), None), (99, [0], [99]), (first - 1, [0], [99]), (first, [1], [first])]:
+        most(line(1, b, resting), bits, powers)
+    refit([1], line(1, first - 1, resting), ([0], 1), [99])
+group("W6: a rest on a tone with limit 0, by its mask or its cap: sent all the same; the rest at the mask, the mask at the cost")
+for cap, mask, limit in [(5, 4, "0:mask"), (0, 100, "0:cap"), (0, 4, "0:cap"), (5, 5, "1:mask")]:
+    resting = pair(0, 5, 1, cap, mask) + at_rest(0, 4)
+    limited(line(1, 4, resting), limit)
+    most(line(1, 3, resting), (16, 0))
+    most(line(1, 4, resting), [0], [4])
+    most(line(1, TOP, resting), *(([1], [5]) if limit[0] == "1" else ([0], [4])))
+refit([1], line(1, TOP, pair(0, 5, 1, 5, 4), at_rest(0, 4)), (10, 0))
+# Tone 0 silenced: no bits send 1, and the first steps are 3 on tone 2 and 4 on tone 1.
+group("W6: a silenced tone sends nothing, silenced first, before its 0b, last: at 0, 1, 3, 4, 8; a target, a re-fit, 10, limits")
+cold = [described[0], at_rest(0, 2), described[1], at_rest(1, 1), described[2]]
+for at in (0, 1, 5):
+    commands = cold[:at] + [silence(0, 1)] + cold[at:]
+    most(line(3, 0, *commands), (16, 0))
+    for b, bits, powers in [(1, [0, 0, 0], [0, 1, 0]), (3, [0, 0, 0], [0, 1, 0]), (4, [0, 0, 1], [0, 1, 3]), (8, [0, 1, 1], [0, 5, 3])]:
+        most(line(3, b, *commands), bits, powers)
+    target(0, line(3, 1, *commands), [0, 0, 0], [0, 1, 0])
+    refit([0, 2, 3], line(3, 8, *commands), ([0, 1, 1], 3), [0, 5, 3])
+    refit([1, 0, 0], line(3, 8, *commands), (10, 0))
+    limited(line(3, 1, *commands), "0:silent 2:cap 3:mask")
+group("W6: all silenced, at 0; a tone not described beside them; two of three silenced by maps that join")
+most(line(3, 0, *cold, silence(0, 7)), [0, 0, 0], [0, 0, 0])
+target(0, line(4, 0, silence(0, 3), *cold), [0, 0, 0, 0], [0, 0, 0, 0])
+most(line(4, 3, *cold), [0, 0, 0, 0], [2, 1, 0, 0])
+step([0, 0, 1], line(3, 3, silence(0, 2), *cold, silence(0, 1)), ([0, 0, 1], 0), [0, 0, 3])
+
+group("W6, 15: rests 0, 1, 2 at cost 3; 3 and more, to 2^32 - 1; by each command of a tone; a single's first bit is not its cost")
+for command in (pair(1), single(1), reading(1, THREE, ONE), reading(1, THREE)):
+    at = 15 + len(command) + 2
+    for power in (0, 1, 2):
+        add(head() + command + at_rest(1, power) + END, (3, 1, 0))
+    for power in (3, 8, 9, 256, 0x01000000, FULL):
+        add(head() + command + at_rest(1, power) + END, (15, at))
+group("W6, 15: the cost rounded up, at the line's gap: one below it, and at it; 256, 257, 08 of 100, 7 / 2, 2.5, thirds, tiny, the largest")
+for gap_command, command, cost in [
+        (gap(), pair(1, 1), 1), (gap(257), pair(1, 1), 2), (gap(257), single(1, 1), 2), (tenths(100), pair(1, 1), 10),
+        (gap(), pair(1, 7, 2), 4), (gap(), single(1, 7, 2), 4), (gap(), reading(1, float_of(2.5)), 3),
+        (tenths(100), reading(1, float_of(2.5), ONE), 25), (gap(768), pair(1, 1, 3), 1), (gap(768), reading(1, ONE, THREE), 2),
+        (gap(768), reading(1, 0x3eaaaaab), 2), (gap(65535), reading(1, SMALLEST), 1), (gap(65535), pair(1, 65535, 1, 15, TOP), 16776705),
+        (gap(65535), single(1, 65535, 1, 7, TOP), 16776705), (gap(65535), reading(1, float_of(65535), cap=15, mask=TOP), 16776705)]:
+    start = size() + gap_command + budget(TOP) + command
+    add(start + at_rest(1, cost - 1) + END, (3, 1, 0), start + (at_rest(1, cost - 1) if cost > 1 else b"") + END)
+    add(start + at_rest(1, cost) + END, (15, len(start) + 2))
+group("W6, 15: a mask one above the rest 2, equal to it, one below; by each command; mask 0; a rest under the mask and over the cost")
+for mask, answer in [(3, (3, 1, 0)), (2, (3, 1, 0)), (1, (15, None)), (0, (15, None))]:
+    for command in (pair(1, mask=mask), single(1, mask=mask), reading(1, THREE, ONE, mask=mask), reading(1, THREE, mask=mask)):
+        add(head() + command + at_rest(1, 2) + END, answer if answer[1] else (15, 15 + len(command) + 2))
+add(head() + pair(1, mask=0) + at_rest(1, 0) + END, (3, 1, 0))
+add(head() + pair(1, mask=0) + at_rest(1, 1) + END, (15, 32))
+add(head() + pair(1, 50, mask=19) + at_rest(1, 20) + END, (15, 32))
+add(head() + pair(1, 20, mask=50) + at_rest(1, 20) + END, (15, 32))
+group("W6, 15 of a silenced tone, silenced first, before its 0b, after it: at the cost, over the mask; below both it is read")
+for before, between, after, at in [(silence(0, 2), b"", b"", 38), (b"", silence(0, 2), b"", 38), (b"", b"", silence(0, 2), 32)]:
+    for power, mask, answer in [(3, 100, (15, at)), (FULL, TOP, (15, at)), (2, 1, (15, at)), (2, 2, (3, 1, 1))]:
+        add(head() + before + pair(1, mask=mask) + between + at_rest(1, power) + after + END, answer)
+
+group("W6, 14: not described: alone, beside others, described later, silenced; the last of 256")
+add(head() + at_rest(0, 0) + END, (14, 16))
+add(head() + at_rest(1, 0) + pair(1) + END, (14, 16))
+add(head() + pair(1) + at_rest(0, 1) + END, (14, 31))
+add(head() + pair(1) + at_rest(2, 1) + single(2) + END, (14, 31))
+add(head() + silence(0, 2) + at_rest(1, 0) + END, (14, 22))
+add(head() + pair(0) + at_rest(0, 2) + at_rest(1, 2) + pair(1) + END, (14, 37))
+add(head(256) + pair(0) + pair(254) + at_rest(255, 0) + END, (14, 46))
+add(head(256) + pair(255) + at_rest(255, 2) + END, (256, 1, 0))
+group("W6, 14: a second 0b, each of rest 0, 1, 2, the first as well; by each command; of a silenced tone")
+for first in (0, 1, 2):
+    for second in (0, 1, 2):
+        add(head() + pair(1) + at_rest(1, first) + at_rest(1, second) + END, (14, 37))
+for command in (single(1), reading(1, THREE, ONE), reading(1, THREE)):
+    for first in (0, 2):
+        add(head() + command + at_rest(1, first) + at_rest(1, 1) + END, (14, 15 + len(command) + 7))
+for first in (0, 2):
+    add(head() + silence(0, 2) + pair(1) + at_rest(1, first) + at_rest(1, 0) + END, (14, 43))
+group("W6, 14: a second 0b after other commands, of tones round the ends of words, after those of all; a second of each of three")
+add(head() + pair(1) + at_rest(1, 0) + single(0) + silence(0, 2) + at_rest(0, 1) + at_rest(1, 1) + END, (14, 64))
+ends_of_words = (0, 31, 32, 63, 128, 255)
+resting = head(256) + b"".join(pair(n) for n in ends_of_words) + b"".join(at_rest(n, n % 3) for n in ends_of_words)
+add(resting + END, (256, 6, 0))
+for number in ends_of_words:
+    add(resting + at_rest(number, 1) + END, (14, 15 + 6 * 21 + 1))
+add(head() + pair(0) + pair(1) + pair(2) + at_rest(2, 0) + at_rest(0, 0) + at_rest(1, 0) + at_rest(1, 0) + END, (14, 79))
+group("W6: 5 before 14 and 15; 14 before 15; tone N - 1 and N; a tone with a 0b described again is 6")
+for power in (0, 2, FULL):
+    add(head() + pair(1) + at_rest(3, power) + END, (5, 31))
+    add(head() + at_rest(255, power) + END, (5, 16))
+    add(head() + pair(1) + at_rest(0, power) + END, (14, 31))
+for n in (1, 3, 255):
+    add(head(n) + pair(n - 1) + at_rest(n - 1, 2) + END, (n, 1, 0))
+    add(head(n) + pair(n - 1) + at_rest(n, 2) + END, (5, 31))
+for first in (0, 2):
+    for second in (3, FULL):
+        add(head() + pair(1) + at_rest(1, first) + at_rest(1, second) + END, (14, 37))
+    for again in (pair(1), single(1), reading(1, THREE, ONE), reading(1, THREE)):
+        add(head() + pair(1) + at_rest(1, first) + again + END, (6, 37))
+group("W6: a 0b cut at each byte; cut (2) before its tone and its rest are judged")
+whole = head() + pair(1) + at_rest(1, 2)
+for n in range(30, 37):
+    add(whole[:n], (2, n))
+add(head() + pair(1) + at_rest(3, FULL)[:5], (2, 35))
+add(head() + pair(1) + at_rest(1, FULL)[:2], (2, 32))
+add(head() + pair(1) + at_rest(1, 2) + at_rest(1, 2)[:5], (2, 41))
+add(head() + at_rest(1, 2)[:4], (2, 19))
+group("W6: 0b first, in place of 02, of 03, after 08, after the end; not allowed (3) before cut (2)")
+for command in (at_rest(0, 0), b"\x0b"):
+    add(command + (head() + END if len(command) > 1 else b""), (3, 0))
+    add(size() + command, (3, 3))
+    add(size() + gap() + command, (3, 6))
+    add(size() + tenths(100) + command, (3, 5))
+    add(head() + pair(0) + END + command, (7, 31))
+group("W6, two faults: the earlier command first")
+add(head() + pair(1) + at_rest(1, 3) + pair(1) + END, (15, 32))
+add(head() + pair(1) + pair(1) + at_rest(1, 3) + END, (6, 31))
+add(head() + at_rest(1, 0) + pair(3) + END, (14, 16))
+add(head() + pair(3) + at_rest(1, 0) + END, (5, 16))
+add(head() + pair(1) + at_rest(1, 3) + at_rest(1, 3) + END, (15, 32))
+add(head() + pair(1) + at_rest(1, 3) + END + END, (15, 32))
+add(head() + pair(1) + at_rest(0, 3) + b"\xff", (14, 31))
+add(head() + reading(1, 0) + at_rest(1, 3) + END, (12, 17))
+add(head() + pair(1) + at_rest(1, 3) + reading(0, DEAR) + END, (15, 32))
+group("W6: the places after 08 are one less: 5, 14, 15; the cost 30 at 08 of 100")
+for command, answer in [(at_rest(3, 0), (5, 30)), (at_rest(0, 0), (14, 30)), (at_rest(1, 30), (15, 31)), (at_rest(1, 29), (3, 1, 0))]:
+    add(in_tenths(100, head() + pair(1) + command + END), answer)
+
+resting = [pair(2, 50), at_rest(2, 10), pair(0, 50), pair(1, 50), at_rest(0, 20), at_rest(1, 15)]
+group("W6, 16: rests of 10, 20, 15 at 46, 45, 44, 0; one of 1 at 1 and 0; some of 0 at 0")
+for b, answer in [(46, (3, 3, 0)), (45, (3, 3, 0)), (44, (16, 0)), (0, (16, 0))]:
+    add(line(3, b, *resting), answer)
+add(line(1, 1, pair(0), at_rest(0, 1)), (1, 1, 0))
+add(line(1, 0, pair(0), at_rest(0, 1)), (16, 0))
+add(line(2, 0, pair(0), at_rest(0, 0), single(1), at_rest(1, 0)), (2, 2, 0))
+group("W6, 16: a silence saves it: of tone 0 at 25, not at 24, first, before its 0b, last; of tone 2 at 35; of all at 0; of others not")
+for at, map_of, b in [(0, 1, 25), (4, 1, 25), (6, 1, 25), (1, 4, 35), (6, 4, 35)]:
+    commands = resting[:at] + [silence(0, map_of)] + resting[at:]
+    add(line(3, b, *commands), (3, 3, 1))
+    add(line(3, b - 1, *commands), (16, 0))
+add(line(3, 0, *resting, silence(0, 7)), (3, 3, 3))
+add(line(3, 0, silence(0, 4), *resting, silence(0, 1), silence(0, 2)), (3, 3, 3))
+add(line(3, 0, silence(0, 4), *resting, silence(0, 1)), (16, 0))
+add(line(4, 44, *resting, silence(0, 8)), (16, 0))
+add(line(256, 44, *resting, pair(255), silence(7, 1 << 31), silence(1, 7)), (16, 0))
+over = head(3, 1) + pair(0) + at_rest(0, 2)
+group("W6, 16 after all that the bytes are refused for: 1, 2, 3, 4, 5, 6, 7, 12, 13, 14, 15 behind rests over the budget")
+for more, answer in [
+        (NOTHING * 700, (1, 0)), (b"", (2, 36)), (pair(1)[:9], (2, 45)), (b"\xff", (3, 36)), (pair(1, 0) + END, (4, 38)),
+        (pair(3) + END, (5, 37)), (silence(0, 8) + END, (5, 38)), (pair(0) + END, (6, 37)), (END + END, (7, 37)), (END + b"\x00", (7, 37)),
+        (reading(1, 0) + END, (12, 38)), (reading(1, DEAR) + END, (13, 38)), (at_rest(1, 0) + END, (14, 37)),
+        (at_rest(0, 0) + END, (14, 37)), (pair(1) + at_rest(1, 3) + END, (15, 53)), (END, (16, 0))]:
+    add(over + more, answer)
+group("W6, 16 in every call, before 8, 9, 10 and 11")
+for sheet in (over + END, rested(2)):
+    # With no room too, as `short` shows of the calls that the test program makes on a refused sheet.
+    assert [model.refused_call("most", None, sheet, 0), model.refused_limits(sheet, 0), model.refused_tidy(sheet, 0)] == [(16, 0)] * 3
+    most(sheet, (16, 0))
+    for bits in (0, LARGEST):
+        target(bits, sheet, (16, 0))
+    for start in ([], [255] * 3, [0] * 3):
+        refit(start, sheet, (16, 0))
+        step(start, sheet, (16, 0))
+    limited(sheet, (16, 0))
+group("W6: the same calls with a silence after the rest: 8 where it is short, 9, 10, 11, no bits, limits")
+saved = over + silence(0, 1) + END
+most(saved, [0, 0, 0], [0, 0, 0])
+target(1, saved, (11, 0))
+refit([255], saved, (9, 0))
+refit([255] * 3, saved, (10, 0))
+step([0] * 3, saved, ([0, 0, 0], 0), [0, 0, 0])
+limited(saved, "0:silent 0:silent 0:silent")
+group("W6: 14 and 15 before all, in every call")
+for sheet, answer in [(over + at_rest(0, 0) + END, (14, 37)), (over + pair(1) + at_rest(1, 3) + END, (15, 53))]:
+    most(sheet, answer)
+    target(LARGEST, sheet, answer)
+    refit([255], sheet, answer)
+    step([], sheet, answer)
+    limited(sheet, answer)
+
+group("W6, tidy: each 0b straight after its tone: as it was; after all tones; tones falling; between others")
+rests = [at_rest(0, 2), at_rest(1, 1)]
+add(rested(39), (3, 3, 0), rested(39))
+add(line(3, 39, *described, *rests), (3, 3, 0), rested(39))
+add(line(3, 39, *reversed(described), *reversed(rests)), (3, 3, 0), rested(39))
+add(line(3, 39, described[2], described[1], rests[1], described[0], rests[0]), (3, 3, 0), rested(39))
+add(line(3, 39, described[0], described[1], rests[0], described[2], rests[1]), (3, 3, 0), rested(39))
+group("W6, tidy: a rest of 0 is dropped, one or both, wherever it stands; a silenced tone's too")
+add(rested(39, 0, 0), (3, 3, 0), model.SAMPLE)
+add(rested(39, 0, 1), (3, 3, 0), line(3, 39, *described[:2], rests[1], described[2]))
+add(rested(39, 2, 0), (3, 3, 0), line(3, 39, described[0], rests[0], *described[1:]))
+add(line(3, 39, *described, at_rest(2, 0), at_rest(0, 0)), (3, 3, 0), model.SAMPLE)
+add(line(3, 39, described[1], silence(0, 2), at_rest(1, 0)), (3, 1, 1), line(3, 39, described[1], silence(0, 2)))
+group("W6, tidy: a silenced tone keeps its rest, silenced first, before its 0b, after it; at a budget of 0; maps behind all tones")
+for at in range(6):
+    add(line(3, 39, *cold[:at], silence(0, 3), *cold[at:]), (3, 3, 2), rested(39, after=silence(0, 3)))
+add(line(3, 0, silence(0, 1), *cold, silence(0, 2)), (3, 3, 2), rested(0, after=silence(0, 3)))
+add(line(40, 1, silence(1, 8), pair(35), at_rest(35, 2), NOTHING, single(3), at_rest(3, 1)), (40, 2, 1),
+    line(40, 1, single(3), at_rest(3, 1), pair(35), at_rest(35, 2), silence(1, 8)))
+group("W6, tidy: rests on tones of 09 and 0a, and of all four commands, falling; with 08")
+four = [pair(0), reading(1, THREE, ONE), reading(2, THREE), single(3)]
+behind = [at_rest(n, power) for n, power in enumerate((2, 1, 2, 1))]
+alternate = [command for both in zip(four, behind) for command in both]
+for start in (head(4), in_tenths(100, head(4))):
+    add(start + b"".join(reversed(four)) + b"".join(behind) + END, (4, 4, 0), start + b"".join(alternate) + END)
+    add(start + b"".join(reversed(four)) + at_rest(1, 0) + silence(0, 6) + behind[2] + END, (4, 4, 2),
+        start + b"".join(four[:3]) + behind[2] + four[3] + silence(0, 6) + END)
+group("W6, tidy: the bytes of a rest; the largest; on the last of 256")
+dear = [tone(4 + n % 2, n, 65535, 1, 7, TOP) for n in range(5)]
+bytewise = [at_rest(n, power) for n, power in enumerate((0x00010203, 0x00abcdef, 0x00ff0000, 0x000000ff, 0x00fffe00))]
+start = size(5) + gap(65535) + budget(TOP)
+add(start + b"".join(dear + bytewise) + END, (5, 5, 0), start + b"".join(c for both in zip(dear, bytewise) for c in both) + END)
+sent = [66051, 11259375, 16711680, 255, 16776704]
+most(at_budget(44814065, start + b"".join(dear + bytewise) + END), [0] * 5, sent)
+most(at_budget(44814064, start + b"".join(dear + bytewise) + END), (16, 0))
+add(line(256, 39, pair(255), pair(0), at_rest(255, 2), at_rest(0, 1)), (256, 2, 0),
+    line(256, 39, pair(0), at_rest(0, 1), pair(255), at_rest(255, 2)))
+
+group("W6: rests on pairs of 09, and of 0a: the sample line's cases")
+for ratios in (False, True):
+    for b, bits, powers in [(3, [0, 0, 0], [2, 1, 0]), (4, [1, 0, 0], [3, 1, 0]), (39, [3, 2, 1], [21, 15, 3])]:
+        most(as_readings(rested(b), ratios), bits, powers)
+    target(0, as_readings(rested(39), ratios), [0, 0, 0], [2, 1, 0])
+    refit([0, 2, 3], as_readings(rested(39), ratios), ([3, 2, 1], 3), [21, 15, 3])
+    refit([0, 2, 3], as_readings(rested(3), ratios), ([0, 0, 0], 7), [2, 1, 0])
+    limited(as_readings(rested(39), ratios), "5:mask 2:cap 3:mask")
+    most(at_budget(2, as_readings(rested(39), ratios)), (16, 0))
+
+group("W6: full sheets: 194 pairs of cost 2 with a rest of 1, 4,090 bytes, and 4,096 with a map; 195; rests of 0; 16 at 193")
+RESTING = "04 ++ 0002 0001 0f %s 0b == 00*3 %%02x" % WIDE
+for body, answer in [("(%s)*194" % RESTING % 1, (256, 194, 0)), ("(%s)*194 06 07 80 00*3" % RESTING % 1, (256, 194, 1)),
+                     ("(%s)*195" % RESTING % 1, (1, 0)), ("(%s)*194 06 07 00*4" % RESTING % 0, (256, 194, 0))]:
+    add(wide(194, body), answer)
+add(wide(193, "(%s)*194" % RESTING % 1), (16, 0))
+add(wide(193, "(%s)*194 06 00 00*3 01" % RESTING % 1), (256, 194, 1))
+assert len(model.bytes_of(wide(194, "(%s)*194" % RESTING % 1))) == 4090
+group("W6: full sheets: 256 tones and 40 rests behind them, 4,096 bytes; 163 of 09 with rests, 4,091; 194 of 0a; 1 of each too many")
+FORTY = "(04 ++ 0002 0001 0f %s)*256 (0b ++ 00*3 01)*40" % WIDE
+LEVELS_RESTING, RATIO_RESTING = LEVELS + " 0b == 000001ff", RATIO + " 0b == 000001ff"
+for body, length, answer in [
+        (FORTY, 4096, (256, 256, 0)), (FORTY + " 0b ++ 00*3 01", 4102, (1, 0)), ("(%s)*163" % LEVELS_RESTING, 4091, (256, 163, 0)),
+        ("(%s)*164" % LEVELS_RESTING, 4116, (1, 0)), ("(%s)*194" % RATIO_RESTING, 4090, (256, 194, 0)),
+        ("(%s)*195" % RATIO_RESTING, 4111, (1, 0))]:
+    assert len(model.bytes_of(wide(TOP, body))) == length
+    add(wide(TOP, body), answer)
+# Of each pair no bits send 1, one bit 2, two 6: 194 steps of 1, then those of 4 from 388 on.
+group("W6: 194 pairs of cost 2 with a rest of 1: at 193, 194, 195, 387, 388, 391, 392, 2^47; targets 0, 194, 195; re-fits, steps; limits")
+resting = "(%s)*194" % RESTING % 1
+not_described = [0] * 62
+for b, bits, powers in [(194, [0] * 194, [1] * 194), (195, [1] + [0] * 193, [2] + [1] * 193), (387, [1] * 193 + [0], [2] * 193 + [1]),
+                        (388, [1] * 194, [2] * 194), (391, [1] * 194, [2] * 194), (392, [2] + [1] * 193, [6] + [2] * 193),
+                        (TOP, [15] * 194, [65534] * 194)]:
+    most(wide(b, resting), bits + not_described, powers + not_described)
+most(wide(193, resting), (16, 0))
+target(0, wide(388, resting), [0] * 256, [1] * 194 + not_described)
+target(194, wide(388, resting), [1] * 194 + not_described, [2] * 194 + not_described)
+target(195, wide(388, resting), (11, 0))
+refit([15] * 194 + not_described, wide(194, resting), ([0] * 256, 194 * 15), [1] * 194 + not_described)
+refit([0] * 97 + [2] * 97 + not_described, wide(388, resting), ([1] * 194 + not_described, 97), [2] * 194 + not_described)
+step([0] * 193 + [1] + not_described, wide(195, resting), ([1] + [0] * 255, 1), [2] + [1] * 193 + not_described)
+step([1] + [0] * 255, wide(194, resting), ([0] * 256, 1), [1] * 194 + not_described)
+limited(wide(194, resting), " ".join(["15:cap"] * 194 + ["0:silent"] * 62))
+group("W6: 194 of the largest cost with the largest rest, 16,776,704: at their sum, one below, one above, the first bit of each; 0a too")
+for body in ("04 ++ ffff 0001 0f", "0a ++ 477fff00 0f"):
+    resting, least = "(%s %s 0b == 00fffe00)*194" % (body, WIDE), 194 * 16776704
+    for b, bits in [(least - 1, (16, 0)), (least, [0] * 256), (least + 1, [1] + [0] * 255), (least + 194, [1] * 194 + not_described)]:
+        most(wide(b, resting, 65535), bits)
+    target(0, wide(least, resting, 65535), [0] * 256, [16776704] * 194 + not_described)
+    refit([1] * 194 + not_described, wide(least + 100, resting, 65535), ([1] * 100 + [0] * 156, 94))
+# A cost of (256 + n) / 32 is 8 or more, one of (256 + n) / 10 is 26 or more. Rests add up to 97 × 31.
+group("W6: 194 tones, pairs with a rest of 7 and singles with one of 24 by turns: at 3,007, 3,006, 5,000, 300,000, 2^47; targets; re-fits")
+resting = "(04 ++ 01== 0020 0f %s 0b == 00*3 07 05 ++ 01== 000a 07 %s 0b == 00*3 18)*97" % (WIDE, WIDE)
+most(wide(3006, resting), (16, 0))
+most(wide(3007, resting), [0] * 256, [7, 24] * 97 + not_described)
+for b in (5000, 300000, TOP):
+    bits = most(wide(b, resting))
+    refit("(0f 07)*97 00*62", wide(b, resting), (bits, 97 * 22 - sum(bits)))
+    target(sum(bits), wide(b, resting), bits)
+    target(sum(bits) + 1, wide(b, resting), (11, 0))
+refit("(00 03)*97 00*62", wide(300000, resting))
+step("(00 03)*97 00*62", wide(300000, resting))
+group("W6: 256 pairs of cost 2, a rest of 1 on the first 40: at 40, 80, 82, 1,000,000; a re-fit of it, a target")
+for b, bits, powers in [(40, [0] * 256, [1] * 40 + [0] * 216), (80, [1] * 40 + [0] * 216, [2] * 40 + [0] * 216),
+                        (82, [1] * 41 + [0] * 215, [2] * 41 + [0] * 215)]:
+    most(wide(b, FORTY), bits, powers)
+most(wide(39, FORTY), (16, 0))
+bits = most(wide(1000000, FORTY))
+refit([15] * 256, wide(1000000, FORTY), (bits, 3840 - sum(bits)))
+target(1000, wide(1000000, FORTY))
+
+dice = random.Random(11)
+
+
+def with_rests(n, b, largest=9):
+    """A line of up to n tones of all four commands, with rests behind some of them and a silence now and then, at what the rests and
+    b allow; rests of 0 and of all but the cost among them."""
+    commands, least = [], 0
+    for number in dice.sample(range(n), dice.randint(1, n)):
+        kind, noise, gain = dice.choice((4, 4, 5, 9, 0x0a)), dice.randint(1, largest), dice.choice((1, 2, 4))
+        levels = {"cap": dice.randint(0, 7), "mask": dice.randint(0, 20 * largest)}
+        floats = {9: (float_of(noise), float_of(gain)), 0x0a: (float_of(Fraction(noise, gain)),)}
+        commands.append(reading(number, *floats[kind], **levels) if kind in floats else tone(kind, number, noise, gain, **levels))
+        most_allowed = min(-(-noise // gain) - 1, levels["mask"])
+        if dice.randint(0, 3) > 0:
+            power = dice.choice((0, most_allowed, dice.randint(0, most_allowed)))
+            commands.append(at_rest(number, power))
+            least += power
+    # Each 0B may move back, over commands of other tones.
+    for i in range(len(commands) - 1, -1, -1):
+        if commands[i][0] == 0x0b:
+            command = commands.pop(i)
+            commands.insert(dice.randint(i, len(commands)), command)
+    if dice.randint(0, 1) == 0:
+        word = dice.randint(0, (n - 1) // 32)
+        bits = dice.getrandbits(min(32, n - 32 * word)) & dice.getrandbits(32)
+        commands.insert(dice.randint(0, len(commands)), silence(word, bits))
+    return line(n, least + b, *commands)
+
+
+group("W6: a dozen lines of up to six tones with rests: check and tidy, most bits, re-fit, step, target, limits")
+for _ in range(12):
+    sheet = with_rests(dice.randint(1, 6), dice.choice((0, dice.randint(0, 9), dice.randint(0, 200))))
+    limits = model.loading_of(sheet).limits
+    start = [dice.randint(0, limit) for limit in limits]
+    add(sheet, model.check(sheet))
+    bits, _ = refit(start, sheet)
+    most(sheet, bits)
+    step(start, sheet)
+    target(max(0, sum(bits) - dice.randint(-1, 3)), sheet)
+    limited(sheet)
+group("W6: lines of 40 and 70 tones with rests: check and tidy, most bits, re-fit")
+for n in (40, 70):
+    sheet = with_rests(n, 5000, 500)
+    add(sheet, model.check(sheet))
+    most(sheet)
+    refit([dice.randint(0, limit) for limit in model.loading_of(sheet).limits], sheet)
+group("W6: four dozen lines of up to four tones at a smaller budget, or with a 0b of any tone and rest behind: mostly refused")
+for _ in range(24):
+    n = dice.randint(1, 4)
+    sheet = with_rests(n, 0)
+    add(sheet[:-1] + at_rest(dice.randint(0, n), dice.choice((0, 1, 2, 5, FULL))) + END, None)
+    add(at_budget(max(0, model.number(sheet[7:15]) - dice.randint(0, 3)), sheet), None)
+
 text = "".join(r + "\n" for r in ROWS)
 # The test program's buffer for its text (`text_buffer` of crates/samplebuffers).
-assert len(text) <= 131072, len(text)
+assert len(text) <= 262144, len(text)
 for name, what in [("stdin", text), ("stdout", model.expected(text))]:
     with open(sys.argv[1] + "/" + name, "w") as f:
         f.write(what)

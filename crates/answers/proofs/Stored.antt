@@ -12,7 +12,7 @@ use Rattle.bigendian.specs.Number.{bytes, withNumber}
 use Rattle.bigendian.proofs.Numbers.{length-bytes, number-fits}
 use Rattle.bigendian.proofs.Stores.{sets-append}
 use Rattle.refusals.specs.declared.Refusal.{Refusal}
-use Rattle.refusals.specs.declared.Refusal.the-variants.{SheetTooLong, SheetEnds, CommandNotAllowed, OperandOutOfRange, ToneBeyondLine, ToneRepeated, BytesAfterEnd, DestinationTooSmall, StartLengthWrong, StartAboveLimit, TargetNotCarried, FloatOutOfRange, CostOutOfRange}
+use Rattle.refusals.specs.declared.Refusal.the-variants.{SheetTooLong, SheetEnds, CommandNotAllowed, OperandOutOfRange, ToneBeyondLine, ToneRepeated, BytesAfterEnd, DestinationTooSmall, StartLengthWrong, StartAboveLimit, TargetNotCarried, FloatOutOfRange, CostOutOfRange, ToneCannotTake, RestOutOfRange, RestsOverBudget}
 use Rattle.refusals.specs.Refusals.{Outcome, refusal}
 use Rattle.sheet.specs.declared.Checked.{Checked}
 use Rattle.sheet.specs.declared.Checked.the-variants as checked
@@ -90,6 +90,9 @@ none-shown n (StartAboveLimit p) = refl
 none-shown n TargetNotCarried = refl
 none-shown n (FloatOutOfRange p) = refl
 none-shown n (CostOutOfRange p) = refl
+none-shown n (ToneCannotTake p) = refl
+none-shown n (RestOutOfRange p) = refl
+none-shown n RestsOverBudget = refl
 
 -- so none touches the buffer
 pub untouched : (n : ℕ) (q : Refusal) (old : List ℕ) → answered (refusal n q) old ≡ old

@@ -17,7 +17,7 @@ use Rattle.rows.specs.declared.Header.{Header}
 use Rattle.places.specs.Places.{entryAt}
 use Rattle.sheet.specs.Index.{Indexed}
 use Rattle.sheet.specs.Reading.{reading}
-use Rattle.sheet.proofs.Sound.{Bytes, Sound}
+use Rattle.sheet.proofs.Sound.{Bytes, Sound, accepted-fits}
 use Rattle.sheet.proofs.Uses.{size-is}
 use Rattle.arrays.specs.Tones.{HoldsLineOf}
 use Rattle.arrays.proofs.Indexed.{SoundIndex, sound-index, steps-found}
@@ -76,18 +76,18 @@ filling-all {l} {i = i} S F all = record {
 -- ---- as the code goes
 
 -- an index of a sheet, and the first i tones of its line in the arrays
-pub record FillingOf (s : List ℕ) (h : Header) (places maps limits costs doublings rests : List ℕ) (i : ℕ) : Type 0 where
-  pub index : SoundIndex s h places maps
+pub record FillingOf (s : List ℕ) (h : Header) (places rested maps limits costs doublings rests : List ℕ) (i : ℕ) : Type 0 where
+  pub index : SoundIndex s h places rested maps
   pub filling : Filling (index .indexed .line) limits costs doublings rests i
 
-pub filling-starts : {s places maps : List ℕ} {h : Header} → Bytes s → Indexed s h places maps
-    → FillingOf s h places maps (replicate mostTones 0) (replicate mostTones 0) (replicate mostTones 0) (replicate mostTones 0) 0
+pub filling-starts : {s places rested maps : List ℕ} {h : Header} → Bytes s → Indexed s h places rested maps
+    → FillingOf s h places rested maps (replicate mostTones 0) (replicate mostTones 0) (replicate mostTones 0) (replicate mostTones 0) 0
 filling-starts b x = record { index = sound-index b x; filling = filling-none (x .line) }
 
-module _ {s places maps limits costs doublings rests : List ℕ} {h : Header} {i : ℕ} (F : FillingOf s h places maps limits costs doublings rests i) where
-  -- one tone more, as the code finds it at its place
-  pub filled-next : i < h .size → (q : Bool) → q ≡ silenced maps i → (x : Steps) → x ≡ entrySteps (parts (h .gap)) (entryAt s (getD places i 0)) q
-      → FillingOf s h places maps (set limits i (x .limit .bits)) (set costs i (x .cost)) (set doublings i (x .doublings)) (set rests i (x .rest)) (i + 1)
+module _ {s places rested maps limits costs doublings rests : List ℕ} {h : Header} {i : ℕ} (F : FillingOf s h places rested maps limits costs doublings rests i) where
+  -- one tone more, as the code finds it at its places
+  pub filled-next : i < h .size → (q : Bool) → q ≡ silenced maps i → (x : Steps) → x ≡ entrySteps (parts (h .gap)) (entryAt s (getD places i 0) (getD rested i 0)) q
+      → FillingOf s h places rested maps (set limits i (x .limit .bits)) (set costs i (x .cost)) (set doublings i (x .doublings)) (set rests i (x .rest)) (i + 1)
   filled-next l q silent x e = record {
     index = F .index;
     filling = filling-more (F .filling) (omega (arith, size-is (F .index .indexed))) (F .index .sound .in-range .size-high) x (steps-found (F .index) i q silent x e);
@@ -95,4 +95,4 @@ module _ {s places maps limits costs doublings rests : List ℕ} {h : Header} {i
 
   -- all of them are in
   pub filled-line : h .size ≤ i → HoldsLineOf (reading s) (arrays limits costs doublings rests)
-  filled-line l = rw (F .index .indexed .means) (F .index .sound .in-range, filling-all (F .index .sound) (F .filling) (omega (arith, size-is (F .index .indexed))))
+  filled-line l = rw (F .index .indexed .means) (F .index .sound .in-range, accepted-fits s (F .index .indexed .line) (F .index .indexed .means), filling-all (F .index .sound) (F .filling) (omega (arith, size-is (F .index .indexed))))

@@ -1,15 +1,16 @@
 -- What reading a sheet into the arrays of its tones answers and leaves.
 -- Assumes nothing.
 use mathlib.Core.Path.{_≡_}
-use Rattle.line.specs.Line.{LineInRange}
+use Prim.Native.Nat.{_≤_}
+use Rattle.line.specs.Line.{restTotal, LineInRange}
 use Rattle.line.specs.Arrays.{Arrays, ArraysOf}
 use Rattle.sheet.specs.declared.Read.{Read}
 use Rattle.sheet.specs.declared.Read.the-variants as read
 use Rattle.sheet.specs.Reading.{Meaning, accepted, refused, headerOf}
 
--- the arrays are those of the line, if there is one
+-- the arrays are those of the line, if there is one, whose rests keep its budget
 abbrev pub HoldsLineOf : Meaning → Arrays → Type 0
-HoldsLineOf (accepted l) A = LineInRange l × ArraysOf l A
+HoldsLineOf (accepted l) A = LineInRange l × (restTotal l ≤ l .budget) × ArraysOf l A
 HoldsLineOf (refused q) A = Unit {0}
 
 -- The header of the line, which is in range, and its arrays; or the refusal, and the arrays as they were.

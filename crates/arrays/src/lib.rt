@@ -16,10 +16,10 @@ use sheet::Read;
 use sizes::TONES;
 use sizes::WORDS;
 
-// What is found of the tone whose command stands at a place: nothing where none does, or where it is silenced.
-pub fn steps_at(s: &[u8], gap: u16, place: u16, silenced: bool) -> Steps
-    requires { ⌜ EntryInRange gap (entryAt (now s) place) ⌝ }
-    ensures { λ r. ⌜ r ≡ entrySteps gap (entryAt (before s) place) «silenced» ⌝ }
+// What is found of the tone whose command stands at a place, and whose rest's at another: nothing where no tone's does, or where it is silenced.
+pub fn steps_at(s: &[u8], gap: u16, place: u16, rested: u16, silenced: bool) -> Steps
+    requires { ⌜ EntryInRange gap (entryAt (now s) place rested) ⌝ }
+    ensures { λ r. ⌜ r ≡ entrySteps gap (entryAt (before s) place rested) «silenced» ⌝ }
 {
     let none = Steps {
         limit: Limit {
@@ -37,7 +37,8 @@ pub fn steps_at(s: &[u8], gap: u16, place: u16, silenced: bool) -> Steps
         return none;
     }
     let tone = places::tone_at(s, place);
-    line::steps_of(gap, tone)
+    let rest = places::rest_at(s, rested);
+    line::steps_of(gap, tone, rest)
 }
 
 // The arrays of the line that an index of the sheet stands for.
@@ -45,13 +46,14 @@ fn fill_arrays(
     s: &[u8],
     header: Header,
     places: &[u16; TONES],
+    rested: &[u16; TONES],
     maps: &[u32; WORDS],
     limits: &mut [u8; TONES],
     costs: &mut [u32; TONES],
     doublings: &mut [u8; TONES],
     rests: &mut [u32; TONES],
 )
-    requires { ⌜ Indexed (now s) header (now places) (now maps) ⌝ }
+    requires { ⌜ Indexed (now s) header (now places) (now rested) (now maps) ⌝ }
     ensures { λ r. ⌜ HoldsLineOf (reading (before s)) (arraysAfter limits costs doublings rests) ⌝ }
 {
     let gap = header.gap;
@@ -64,7 +66,7 @@ fn fill_arrays(
     while i < header.size as usize {
         let tone = i as u8;
         let silenced = silence::is_silenced(maps, tone);
-        let steps = steps_at(s, parts, places[i], silenced);
+        let steps = steps_at(s, parts, places[i], rested[i], silenced);
         limits[i] = steps.limit.bits;
         costs[i] = steps.cost;
         doublings[i] = steps.doublings;
@@ -85,12 +87,23 @@ pub fn read_tones(
     ensures { λ r. ⌜ TonesOf r (arraysBefore limits costs doublings rests) (arraysAfter limits costs doublings rests) (reading (before s)) ⌝ }
 {
     let mut places: [u16; TONES] = [0; TONES];
+    let mut rested: [u16; TONES] = [0; TONES];
     let mut maps: [u32; WORDS] = [0; WORDS];
-    let read = sheet::read_sheet(s, &mut places, &mut maps);
+    let read = sheet::read_sheet(s, &mut places, &mut rested, &mut maps);
     match read {
         Read::Refused(refusal) => Read::Refused(refusal),
         Read::Accepted(header) => {
-            fill_arrays(s, header, &places, &maps, limits, costs, doublings, rests);
+            fill_arrays(
+                s,
+                header,
+                &places,
+                &rested,
+                &maps,
+                limits,
+                costs,
+                doublings,
+                rests,
+            );
             Read::Accepted(header)
         }
     }

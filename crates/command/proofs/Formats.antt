@@ -12,8 +12,8 @@ use Rattle.bigendian.specs.Number.{number}
 use Rattle.refusals.specs.declared.Refusal.{Refusal}
 use Rattle.rows.specs.declared.Header.{Header}
 use Rattle.rows.specs.declared.Command.{Command}
-use Rattle.rows.specs.Rows.{Seen, Operand, Row, within, silence, tenthsRows, readingRows, rowsOf, width, withCode, judged, operandsFrom, rowAt}
-use Rattle.command.specs.Format.{Format, formatOf, document01, withTenths, today, isRefused, Covers, Covered, Within}
+use Rattle.rows.specs.Rows.{Seen, Operand, Row, within, silence, tenthsRows, readingRows, restRows, rowsOf, width, withCode, judged, operandsFrom, rowAt}
+use Rattle.command.specs.Format.{Format, formatOf, document01, withTenths, withReadings, today, isRefused, Covers, Covered, Within}
 use Rattle.command.proofs.Walk.{in-within}
 
 -- what holds of the elements of two lists, one by one
@@ -115,7 +115,7 @@ wider {t} {t′} {w} {w′} tones words bytes = record {
     rows (suc (suc zero)) = all-same (rowsOf t w 2)
     rows (suc (suc (suc n))) =
         let words-wider : Covers (silence w′) (silence w) = covers-wider _ _ _ _ (wider-within 1 0 (omega arith), (wider-same _, tt)) in
-        (same _, (same _, (record { same-code = refl; covers = words-wider }, (same _, (same _, (same _, tt))))))
+        (same _, (same _, (record { same-code = refl; covers = words-wider }, (same _, (same _, (same _, (same _, tt)))))))
 
 pub within-same : (F : Format) → Within F F
 within-same F = record { no-longer = omega arith; covered = λ stage code. same (withCode (F .rows stage) code) }
@@ -139,5 +139,9 @@ pub tenths-within : Within document01 withTenths
 tenths-within = record { no-longer = omega arith; covered = λ stage code. more-rows (document01 .rows stage) (tenthsRows stage) code }
 
 -- W5: with 09 and 0A, what that one takes
-pub readings-within : Within withTenths today
+pub readings-within : Within withTenths withReadings
 readings-within = record { no-longer = omega arith; covered = λ stage code. more-rows (withTenths .rows stage) (readingRows stage) code }
+
+-- W6: and with 0B, what that one takes
+pub rests-within : Within withReadings today
+rests-within = record { no-longer = omega arith; covered = λ stage code. more-rows (withReadings .rows stage) (restRows stage) code }

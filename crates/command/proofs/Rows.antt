@@ -1,4 +1,4 @@
--- Laws of the command at a place: `one-row`, `some-late`, `reading-late`, `none-late`, `row-found`, the row that a command byte finds; `command-too-long`, `command-at`,
+-- Laws of the command at a place: `one-row`, `some-late`, `added-late`, `none-late`, `row-found`, the row that a command byte finds; `command-too-long`, `command-at`,
 -- `no-row`, `row-there`, `row-cut`, `row-whole`, the command there.
 -- Assumes nothing.
 use mathlib.Core.Path.{_≡_, refl, sym, ap, _∙_}
@@ -12,11 +12,10 @@ use borrow.Author.Tests.{le-ltb, lt-ltb, lt-leb, ne-eqb}
 use borrow.Author.Needs.{needs}
 use lib.ListN.{length, getD}
 use Rattle.sizes.specs.Sizes.{longestSheet}
-use Rattle.line.specs.Line.{Entry}
 use Rattle.refusals.specs.declared.Refusal.the-variants.{SheetTooLong, SheetEnds, CommandNotAllowed}
 use Rattle.rows.specs.declared.Header.{Header}
 use Rattle.rows.specs.declared.Command.the-variants.{Refused}
-use Rattle.rows.specs.Rows.{Row, pair, single, end, levels, ratio, width, withCode, rowAt, wholeRow}
+use Rattle.rows.specs.Rows.{Known, Row, pair, single, end, levels, ratio, rest, width, withCode, rowAt, wholeRow}
 use Rattle.rows.specs.Codes.{silenceRow, allRows, rowOf, commandBytes}
 use Rattle.command.specs.Format.{isRow, today, decoded, commandAt}
 use Rattle.command.proofs.Walk.{Each, Found, found}
@@ -54,7 +53,7 @@ found-today P each stage code = found P code (today .rows stage) (part stage)
 
 -- after the first three commands the others are allowed
 abbrev lateRows : List Row
-lateRows = pair ∷ single ∷ silenceRow ∷ end ∷ levels ∷ ratio ∷ []
+lateRows = pair ∷ single ∷ silenceRow ∷ end ∷ levels ∷ ratio ∷ rest ∷ []
 
 rows-late : (stage : ℕ) → 3 ≤ stage → today .rows stage ≡ lateRows
 rows-late zero l = absurd (omega arith)
@@ -68,7 +67,7 @@ one-row true r = refl
 one-row false r = refl
 
 module _ (stage code : ℕ) (late : 3 ≤ stage) where
-  -- their bytes are 4 to 7, 9 and 10
+  -- their bytes are 4 to 7 and 9 to 11
   pub some-late : 4 ≤ code → code ≤ 7 → isRow (withCode (today .rows stage) code) ≡ true
   some-late low high = rw (rows-late stage late) (by (ℕ-discrete code 4) (ℕ-discrete code 5) (ℕ-discrete code 6))
     where
@@ -78,18 +77,27 @@ module _ (stage code : ℕ) (late : 3 ≤ stage) where
       by (no p) (no q) (yes e) = rw e
       by (no p) (no q) (no r) = let e : code ≡ 7 = omega arith in rw e
 
-  pub reading-late : 9 ≤ code → code ≤ 10 → isRow (withCode (today .rows stage) code) ≡ true
-  reading-late low high = rw (rows-late stage late) (by (ℕ-discrete code 9))
+  pub added-late : 9 ≤ code → code ≤ 11 → isRow (withCode (today .rows stage) code) ≡ true
+  added-late low high = rw (rows-late stage late) (by (ℕ-discrete code 9) (ℕ-discrete code 10))
     where
-      by : Dec (code ≡ 9) → isRow (withCode lateRows code) ≡ true
-      by (yes e) = rw e
-      by (no p) = let e : code ≡ 10 = omega arith in rw e
+      by : Dec (code ≡ 9) → Dec (code ≡ 10) → isRow (withCode lateRows code) ≡ true
+      by (yes e) q = rw e
+      by (no p) (yes e) = rw e
+      by (no p) (no q) = let e : code ≡ 11 = omega arith in rw e
 
   -- and no other
-  pub none-late : (code ≡ 4 → ⊥) → (code ≡ 5 → ⊥) → (code ≡ 6 → ⊥) → (code ≡ 7 → ⊥) → (code ≡ 9 → ⊥) → (code ≡ 10 → ⊥)
-      → isRow (withCode (today .rows stage) code) ≡ false
-  none-late p4 p5 p6 p7 p9 p10 =
-      rw (rows-late stage late, ne-eqb code 4 p4, ne-eqb code 5 p5, ne-eqb code 6 p6, ne-eqb code 7 p7, ne-eqb code 9 p9, ne-eqb code 10 p10)
+  pub none-late : (4 ≤ code → code ≤ 7 → ⊥) → (9 ≤ code → code ≤ 11 → ⊥) → isRow (withCode (today .rows stage) code) ≡ false
+  none-late p q =
+      rw (
+        rows-late stage late,
+        ne-eqb code 4 (λ e. p (omega arith) (omega arith)),
+        ne-eqb code 5 (λ e. p (omega arith) (omega arith)),
+        ne-eqb code 6 (λ e. p (omega arith) (omega arith)),
+        ne-eqb code 7 (λ e. p (omega arith) (omega arith)),
+        ne-eqb code 9 (λ e. q (omega arith) (omega arith)),
+        ne-eqb code 10 (λ e. q (omega arith) (omega arith)),
+        ne-eqb code 11 (λ e. q (omega arith) (omega arith)),
+      )
 
 -- a byte that finds a row finds its own
 none-found : (o : Option Row) → isRow o ≡ false → o ≡ none
@@ -109,7 +117,7 @@ row-found stage code h = by (withCode (today .rows stage) code) (found-today Own
 -- ---- decoding
 
 -- Refusal 1 comes first.
-module _ (h : Header) (known : Entry) (s : List ℕ) (at stage : ℕ) where
+module _ (h : Header) (known : Known) (s : List ℕ) (at stage : ℕ) where
   pub command-too-long : longestSheet < length s → commandAt today h known s at stage ≡ record { command = Refused SheetTooLong; next = at }
   unfolding commandAt
   command-too-long long = rw (lt-ltb longestSheet (length s) long)
@@ -119,7 +127,7 @@ module _ (h : Header) (known : Entry) (s : List ℕ) (at stage : ℕ) where
   command-at short = rw (le-ltb longestSheet (length s) short)
 
 -- The command at a place where its byte stands.
-module _ (h : Header) (known : Entry) (s : List ℕ) (at stage : ℕ) (inside : at < length s) where
+module _ (h : Header) (known : Known) (s : List ℕ) (at stage : ℕ) (inside : at < length s) where
   pub no-row : isRow (withCode (today .rows stage) (getD s at 0)) ≡ false
       → decoded today h known s at stage ≡ record { command = Refused (CommandNotAllowed at); next = at }
   unfolding decoded
@@ -131,7 +139,7 @@ module _ (h : Header) (known : Entry) (s : List ℕ) (at stage : ℕ) (inside : 
   row-there f = rw (lt-leb (length s) at inside, f)
 
 -- A command whose byte is allowed: all of its bytes are there, or not.
-module _ (h : Header) (known : Entry) (s : List ℕ) (at code : ℕ) {bytes : ℕ} (e : bytes ≡ commandBytes code) where
+module _ (h : Header) (known : Known) (s : List ℕ) (at code : ℕ) {bytes : ℕ} (e : bytes ≡ commandBytes code) where
   next-is : at + 1 + width (rowOf code .operands) ≡ at + bytes
   next-is = omega arith
 

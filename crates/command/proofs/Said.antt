@@ -11,21 +11,22 @@ use borrow.Author.Needs.{needs}
 use borrow.Author.Tests.{leb-false, ltb-false}
 use lib.Dec.{leb}
 use lib.ListN.{length, getD}
-use Rattle.sizes.specs.Sizes.{mostWords, longestSheet}
+use Rattle.sizes.specs.Sizes.{mostWords, longestSheet, restCommand}
 use Rattle.lists.proofs.Tests.{by-test}
 use Rattle.bigendian.specs.Number.{number}
 use Rattle.bigendian.proofs.Numbers.{number-one}
 use Rattle.silence.specs.Map.{namesBeyond}
-use Rattle.line.specs.Line.{Entry, isDescribed}
+use Rattle.gaps.specs.Gap.{parts}
+use Rattle.line.specs.Line.{isDescribed}
 use Rattle.rows.specs.declared.Header.{Header}
 use Rattle.rows.specs.declared.Command.{Command}
-use Rattle.rows.specs.declared.Command.the-variants.{End, Refused, Head, Describe, Silence}
+use Rattle.rows.specs.declared.Command.the-variants.{End, Refused, Head, Describe, Rest, Silence}
 use Rattle.rows.specs.declared.Decoded.{Decoded}
-use Rattle.rows.specs.Rows.{Operand, Row, describing, numbers, levelOperands, ratioOperands, width}
+use Rattle.rows.specs.Rows.{Known, Operand, takesRest, isRestOf, Row, rest, describing, numbers, levelOperands, ratioOperands, width}
 use Rattle.places.specs.Places.{addressed}
 use Rattle.command.specs.Format.{today, isTooLong, commandAt}
 use Rattle.rows.specs.Codes.{ToneCode, commandBytes, silenceRow}
-use Rattle.command.proofs.Walk.{Each, first-value, passes, in-within, Does, by-rows}
+use Rattle.command.proofs.Walk.{Each, first-value, passes, takes, in-within, Does, by-rows}
 
 -- its bytes are there, in a sheet that is not too long
 pub record There (length at next : ℕ) : Type 0 where
@@ -39,14 +40,25 @@ pub record Heads (s : List ℕ) (at stage next : ℕ) : Type 0 where
   pub early : stage < 3
 
 -- a tone is the one that the command addresses, of the line and not described before; its command is whole, and not one of the first three
-pub record DescribesTone (h : Header) (known : Entry) (s : List ℕ) (at stage next i : ℕ) : Type 0 where
+pub record DescribesTone (h : Header) (known : Known) (s : List ℕ) (at stage next i : ℕ) : Type 0 where
   pub there : There (length s) at next
   pub late : 3 ≤ stage
   pub code : ToneCode (getD s at 0)
   pub whole : at + commandBytes (getD s at 0) ≤ length s
   pub tone : i ≡ addressed s at
   pub of-line : i < h .size
-  pub new : isDescribed known ≡ false
+  pub new : isDescribed (known .entry) ≡ false
+
+-- a rest is given to the tone that the command addresses, of the line, described and without a rest before, which takes it; its command is whole
+pub record RestsTone (h : Header) (known : Known) (s : List ℕ) (at stage next i : ℕ) : Type 0 where
+  pub there : There (length s) at next
+  pub late : 3 ≤ stage
+  pub code : getD s at 0 ≡ 0x0b
+  pub whole : at + restCommand ≤ length s
+  pub tone : i ≡ addressed s at
+  pub of-line : i < h .size
+  pub takes-one : takesRest known ≡ true
+  pub fits : isRestOf (parts (h .gap)) (known .entry) (number s (at + 2) 4) ≡ true
 
 -- a word is one of the eight, and its map names tones of the line
 pub record Silences (h : Header) (s : List ℕ) (at stage next word map : ℕ) : Type 0 where
@@ -61,15 +73,16 @@ pub record Ends (s : List ℕ) (at stage next : ℕ) : Type 0 where
   pub there : There (length s) at next
   pub late : 3 ≤ stage
 
-abbrev pub Said : Header → (known : Entry) → List ℕ → (at stage next : ℕ) → Command → Type 0
+abbrev pub Said : Header → (known : Known) → List ℕ → (at stage next : ℕ) → Command → Type 0
 Said h known s at stage next (Refused q) = Unit {0}
 Said h known s at stage next End = Ends s at stage next
 Said h known s at stage next (Head h′) = Heads s at stage next
 Said h known s at stage next (Describe i) = DescribesTone h known s at stage next i
+Said h known s at stage next (Rest i) = RestsTone h known s at stage next i
 Said h known s at stage next (Silence word map) = Silences h s at stage next word map
 
 -- the same of what is decoded
-abbrev pub SaidOf : Header → (known : Entry) → List ℕ → (at stage : ℕ) → Decoded → Type 0
+abbrev pub SaidOf : Header → (known : Known) → List ℕ → (at stage : ℕ) → Decoded → Type 0
 SaidOf h known s at stage d = Said h known s at stage (d .next) (d .command)
 
 -- a row that makes a new header
@@ -78,12 +91,13 @@ IsHead (Head h) = Unit {0}
 IsHead End = ⊥
 IsHead (Refused q) = ⊥
 IsHead (Describe i) = ⊥
+IsHead (Rest i) = ⊥
 IsHead (Silence word map) = ⊥
 
 abbrev Heading : Row → Type 0
 Heading r = (h : Header) (v : List ℕ) → IsHead (r .does h v)
 
-module _ (h : Header) (known : Entry) (s : List ℕ) (at : ℕ) (short : length s ≤ longestSheet) where
+module _ (h : Header) (known : Known) (s : List ℕ) (at : ℕ) (short : length s ≤ longestSheet) where
   there : (w : ℕ) → at + 1 + w ≤ length s → There (length s) at (at + 1 + w)
   there w whole = record { onward = omega arith; inside = whole; short = short }
 
@@ -99,7 +113,7 @@ module _ (h : Header) (known : Entry) (s : List ℕ) (at : ℕ) (short : length 
         whole = rw own (omega (arith, bytes));
         tone = number-one s (at + 1);
         of-line = leb-false _ _ (v .0);
-        new = passes (isDescribed known) _ _ (v .1) .0;
+        new = passes (isDescribed (known .entry)) _ _ (v .1) .0;
       }
 
   silence-said : (stage : ℕ) → 3 ≤ stage → Does (SaidOf h known s at stage) h known s at silenceRow
@@ -114,6 +128,20 @@ module _ (h : Header) (known : Entry) (s : List ℕ) (at : ℕ) (short : length 
         of-line = passes (namesBeyond (h .size) (number s (at + 1) 1) (number s (at + 1 + 1) 4)) _ _ (p .1 .0) .0;
       }
 
+  rest-said : (stage : ℕ) → 3 ≤ stage → Does (SaidOf h known s at stage) h known s at rest
+  rest-said stage late own whole p =
+      let v = passes (leb (h .size) (number s (at + 1) 1)) _ _ (p .0) in
+      record {
+        there = there 5 whole;
+        late = late;
+        code = own;
+        whole = omega arith;
+        tone = number-one s (at + 1);
+        of-line = leb-false _ _ (v .0);
+        takes-one = takes (takesRest known) _ _ (v .1) .0;
+        fits = rw add-assoc at (takes (isRestOf (parts (h .gap)) (known .entry) (number s (at + 1 + 1) 4)) _ _ (p .1 .0) .0);
+      }
+
   -- such rows stand among the first three commands
   heads-said : (stage : ℕ) → stage < 3 → (rs : List Row) → Each Heading rs → Each (Does (SaidOf h known s at stage) h known s at) rs
   heads-said stage early [] all = tt
@@ -125,6 +153,7 @@ module _ (h : Header) (known : Entry) (s : List ℕ) (at : ℕ) (short : length 
       by End i t = absurd i
       by (Refused q) i t = absurd i
       by (Describe i) k t = absurd k
+      by (Rest i) k t = absurd k
       by (Silence word map) i t = absurd i
 
   all-said : (stage : ℕ) → Each (Does (SaidOf h known s at stage) h known s at) (today .rows stage)
@@ -140,14 +169,17 @@ module _ (h : Header) (known : Entry) (s : List ℕ) (at : ℕ) (short : length 
             silence-said _ late,
             (
               λ own whole p. record { there = there 0 whole; late = late },
-              (tone-said _ 9 levelOperands late (inr (inl refl)) refl, (tone-said _ 10 ratioOperands late (inr (inr refl)) refl, tt)),
+              (
+                tone-said _ 9 levelOperands late (inr (inl refl)) refl,
+                (tone-said _ 10 ratioOperands late (inr (inr refl)) refl, (rest-said _ late, tt)),
+              ),
             ),
           ),
         ),
       )
 
 -- What is known of the command at a place.
-pub command-said : (h : Header) (known : Entry) (s : List ℕ) (at stage : ℕ) → SaidOf h known s at stage (commandAt today h known s at stage)
+pub command-said : (h : Header) (known : Known) (s : List ℕ) (at stage : ℕ) → SaidOf h known s at stage (commandAt today h known s at stage)
 unfolding commandAt
 command-said h known s at stage =
     by-test (SaidOf h known s at stage) (isTooLong today s) (λ e. tt)

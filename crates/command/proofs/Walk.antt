@@ -12,13 +12,12 @@ use lib.Dec.{ltb, leb}
 use lib.ListN.{length, getD}
 use Rattle.lists.proofs.Tests.{by-test}
 use Rattle.bigendian.specs.Number.{number}
-use Rattle.line.specs.Line.{Entry}
 use Rattle.refusals.specs.declared.Refusal.{Refusal}
 use Rattle.rows.specs.declared.Header.{Header}
 use Rattle.rows.specs.declared.Command.{Command}
 use Rattle.rows.specs.declared.Command.the-variants.{Refused}
 use Rattle.rows.specs.declared.Decoded.{Decoded}
-use Rattle.rows.specs.Rows.{Seen, Operand, Row, width, withCode, judged, operandsFrom, rowAt}
+use Rattle.rows.specs.Rows.{Known, Seen, Operand, Row, width, withCode, judged, operandsFrom, rowAt}
 use Rattle.command.specs.Format.{Format, decodedRow, decoded}
 
 -- ---- the row that a command byte finds
@@ -44,7 +43,7 @@ found P code (r ∷ rs) each = by (found P code rs (each .1)) (ℕ-discrete code
 -- ---- its operands
 
 -- what the first operand of a command sees
-abbrev pub seenAt : Header → (known : Entry) → Seen
+abbrev pub seenAt : Header → (known : Known) → Seen
 seenAt h known = record { header = h; known = known; before = [] }
 
 -- the operands from a place on are met by no refusal
@@ -97,13 +96,13 @@ in-within v low high r q e =
 -- ---- the command at a place
 
 -- what a row does, where the command is its own, its bytes are there and its operands pass
-abbrev pub Does : (Decoded → Type 0) → Header → (known : Entry) → List ℕ → (at : ℕ) → Row → Type 0
+abbrev pub Does : (Decoded → Type 0) → Header → (known : Known) → List ℕ → (at : ℕ) → Row → Type 0
 Does P h known s at r =
     getD s at 0 ≡ r .code → at + 1 + width (r .operands) ≤ length s → Passed (seenAt h known) s (at + 1) (r .operands)
     → P (record { command = r .does h (values [] s (at + 1) (r .operands)); next = at + 1 + width (r .operands) })
 
 -- What holds of a refusal, and of what each row of a stage does, holds of the command that is decoded there.
-pub by-rows : (F : Format) (h : Header) (known : Entry) (s : List ℕ) (at stage : ℕ) (P : Decoded → Type 0)
+pub by-rows : (F : Format) (h : Header) (known : Known) (s : List ℕ) (at stage : ℕ) (P : Decoded → Type 0)
     → ((q : Refusal) (next : ℕ) → P (record { command = Refused q; next = next }))
     → Each (Does P h known s at) (F .rows stage)
     → P (decoded F h known s at stage)

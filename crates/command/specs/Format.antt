@@ -1,5 +1,5 @@
 -- What a format allows, and the command at a place of a sheet. Document 01, 'The line sheet' and 'Why a sheet is turned down'; document 02,
--- W1 and W5.
+-- W1, W5 and W6.
 -- Assumes nothing.
 use mathlib.Core.Bool.{Bool, true, false, cond}
 use mathlib.Core.List.{List, _++_}
@@ -9,13 +9,12 @@ use Prim.Native.Nat.{ℕ, _≤_}
 use lib.Dec.{leb, ltb}
 use lib.ListN.{length, getD}
 use Rattle.sizes.specs.Sizes.{mostTones, mostWords, longestSheet}
-use Rattle.line.specs.Line.{Entry}
 use Rattle.refusals.specs.declared.Refusal.the-variants.{SheetTooLong, SheetEnds, CommandNotAllowed}
 use Rattle.rows.specs.declared.Header.{Header}
 use Rattle.rows.specs.declared.Command.{Command}
-use Rattle.rows.specs.declared.Command.the-variants.{End, Refused, Head, Describe, Silence}
+use Rattle.rows.specs.declared.Command.the-variants.{End, Refused, Head, Describe, Rest, Silence}
 use Rattle.rows.specs.declared.Decoded.{Decoded}
-use Rattle.rows.specs.Rows.{Row, width, firstRows, tenthsRows, rowsOf, withCode, rowAt, wholeRow}
+use Rattle.rows.specs.Rows.{Known, Row, width, firstRows, tenthsRows, readingRows, rowsOf, withCode, rowAt, wholeRow}
 
 -- The most tones, the silence words, the longest sheet, and the commands allowed after so many of the first three.
 pub record Format : Type 0 where
@@ -41,6 +40,15 @@ withTenths = record {
   rows = λ stage. firstRows mostTones mostWords stage ++ tenthsRows stage;
 }
 
+-- the one before W6, with readings of the line analyser
+abbrev pub withReadings : Format
+withReadings = record {
+  tones = mostTones;
+  words = mostWords;
+  bytes = longestSheet;
+  rows = λ stage. (firstRows mostTones mostWords stage ++ tenthsRows stage) ++ readingRows stage;
+}
+
 -- the format that is read
 abbrev pub today : Format
 today = formatOf mostTones mostWords longestSheet
@@ -56,18 +64,18 @@ isTooLong F s = ltb (F .bytes) (length s)
 
 -- The command at a place of a sheet: refusal 2 where the sheet ends there, 3 where its byte is not allowed; else as its row has it. With it
 -- comes the place after the command.
-abbrev pub decodedRow : Header → (known : Entry) → List ℕ → (at : ℕ) → Option Row → Decoded
+abbrev pub decodedRow : Header → (known : Known) → List ℕ → (at : ℕ) → Option Row → Decoded
 decodedRow h known s at none = record { command = Refused (CommandNotAllowed at); next = at }
 decodedRow h known s at (some r) = wholeRow h known s at r
 
-unfoldable pub decoded : Format → Header → (known : Entry) → List ℕ → (at stage : ℕ) → Decoded
+unfoldable pub decoded : Format → Header → (known : Known) → List ℕ → (at stage : ℕ) → Decoded
 unfolding rowAt
 decoded F h known s at stage =
     cond (leb (length s) at) (record { command = Refused (SheetEnds (length s)); next = at })
     (decodedRow h known s at (withCode (F .rows stage) (getD s at 0)))
 
 -- The command at a place of any bytes: of a sheet that is too long no command is read.
-unfoldable pub commandAt : Format → Header → (known : Entry) → List ℕ → (at stage : ℕ) → Decoded
+unfoldable pub commandAt : Format → Header → (known : Known) → List ℕ → (at stage : ℕ) → Decoded
 unfolding decoded
 commandAt F h known s at stage =
     cond (isTooLong F s) (record { command = Refused SheetTooLong; next = at }) (decoded F h known s at stage)
@@ -79,12 +87,13 @@ isRefused (Refused r) = true
 isRefused End = false
 isRefused (Head h) = false
 isRefused (Describe i) = false
+isRefused (Rest i) = false
 isRefused (Silence word map) = false
 
 -- A row covers another: wherever that one takes a command, this one takes as many bytes and does the same.
 pub record Covers (r′ r : Row) : Type 0 where
   pub same-width : width (r′ .operands) ≡ width (r .operands)
-  pub same-effect : (h : Header) (known : Entry) (s : List ℕ) (at : ℕ) → isRefused (rowAt h known s at r) ≡ false → rowAt h known s at r′ ≡ rowAt h known s at r
+  pub same-effect : (h : Header) (known : Known) (s : List ℕ) (at : ℕ) → isRefused (rowAt h known s at r) ≡ false → rowAt h known s at r′ ≡ rowAt h known s at r
 
 -- what a row that a format finds for a command byte needs of a larger one
 abbrev pub Covered : Option Row → Option Row → Type 0

@@ -1,13 +1,14 @@
-// The command at a place of a line sheet: document 01, 'The line sheet' and 'Why a sheet is turned down', and document 02, W1 and W5.
+// The command at a place of a line sheet: document 01, 'The line sheet' and 'Why a sheet is turned down', and document 02, W1, W5 and W6.
 ghost use mathlib.Core.Path.{_≡_};
 ghost use Prim.Native.Nat.{_+_, _≤_};
 ghost use lib.ListN.{length};
 ghost use Rattle.sizes.specs.Sizes.{longestSheet};
 ghost use Rattle.lists.specs.Lent.{before};
-ghost use Rattle.line.specs.Line.{Entry};
+ghost use Rattle.gaps.specs.Gap.{parts};
+ghost use Rattle.line.specs.Line.{EntryInRange};
 ghost use Rattle.places.specs.Places.{entryAt};
-ghost use Rattle.rows.specs.Rows.{rowAt, wholeRow, withCode};
-ghost use Rattle.rows.specs.Codes.{ToneCode, rowOf, commandBytes};
+ghost use Rattle.rows.specs.Rows.{Known, rowAt, wholeRow, withCode};
+ghost use Rattle.rows.specs.Codes.{knownAt, ToneCode, rowOf, commandBytes};
 ghost use Rattle.command.specs.Format.{isRow, today, commandAt};
 use refusals::Refusal;
 use rows::Command;
@@ -29,17 +30,18 @@ fn is_allowed(stage: u8, code: u8) -> bool
         return code == 3;
     }
     match code {
-        4..=7 | 9 | 10 => true,
+        4..=7 | 9..=11 => true,
         _ => false,
     }
 }
 
-// What a command does that describes no tone, all of whose bytes are there.
+// What a command does that addresses no tone, all of whose bytes are there.
 fn line_operands(s: &[u8], at: usize, code: u8, header: Header) -> Command
     requires { ⌜ (ToneCode code → ⊥) ⌝ }
+    requires { ⌜ (code ≡ 11 → ⊥) ⌝ }
     requires { ⌜ at + commandBytes code ≤ length (now s) ⌝ }
     requires { ⌜ length (now s) ≤ longestSheet ⌝ }
-    ensures { λ r. ⌜ ((known : Entry) → r ≡ rowAt header known (before s) at (rowOf code)) ⌝ }
+    ensures { λ r. ⌜ ((known : Known) → r ≡ rowAt header known (before s) at (rowOf code)) ⌝ }
 {
     match code {
         1..=3 => rows::header_command(s, at, code, header),
@@ -50,23 +52,26 @@ fn line_operands(s: &[u8], at: usize, code: u8, header: Header) -> Command
 }
 
 // What a command does, all of whose bytes are there.
-fn operands(s: &[u8], at: usize, code: u8, header: Header, place: u16) -> Command
+fn operands(s: &[u8], at: usize, code: u8, header: Header, place: u16, rested: u16) -> Command
     requires { ⌜ at + commandBytes code ≤ length (now s) ⌝ }
     requires { ⌜ length (now s) ≤ longestSheet ⌝ }
-    ensures { λ r. ⌜ r ≡ rowAt header (entryAt (before s) place) (before s) at (rowOf code) ⌝ }
+    requires { ⌜ EntryInRange (parts (header .gap)) (entryAt (now s) place rested) ⌝ }
+    ensures { λ r. ⌜ r ≡ rowAt header (knownAt (before s) place rested) (before s) at (rowOf code) ⌝ }
 {
     match code {
         4 | 5 | 9 | 10 => tonerows::tone_command(s, at, code, header, place),
+        11 => tonerows::rest_command(s, at, header, place, rested),
         _ => line_operands(s, at, code, header),
     }
 }
 
 // What the command of a byte does, or why it is refused, and the place after it: 2 where its bytes are not all there, and then its operands
-// from left to right. `place` is where the tone that it addresses is described already, or 0.
-fn row_at(s: &[u8], at: usize, code: u8, header: Header, place: u16) -> Decoded
+// from left to right. `place` is where the tone that it addresses is described already, and `rested` where that has had a rest, or 0.
+fn row_at(s: &[u8], at: usize, code: u8, header: Header, place: u16, rested: u16) -> Decoded
     requires { ⌜ at ≤ length (now s) ⌝ }
     requires { ⌜ length (now s) ≤ longestSheet ⌝ }
-    ensures { λ r. ⌜ r ≡ wholeRow header (entryAt (before s) place) (before s) at (rowOf code) ⌝ }
+    requires { ⌜ EntryInRange (parts (header .gap)) (entryAt (now s) place rested) ⌝ }
+    ensures { λ r. ⌜ r ≡ wholeRow header (knownAt (before s) place rested) (before s) at (rowOf code) ⌝ }
 {
     let ends = s.len();
     let bytes = rows::bytes_of(code);
@@ -77,15 +82,16 @@ fn row_at(s: &[u8], at: usize, code: u8, header: Header, place: u16) -> Decoded
         };
     }
     Decoded {
-        command: operands(s, at, code, header, place),
+        command: operands(s, at, code, header, place, rested),
         next: at + bytes,
     }
 }
 
 // The command at a place, and the place after it, with the header so far. `place` is where the tone that the command addresses is
-// described already, or 0.
-pub fn decode(s: &[u8], at: usize, stage: u8, header: Header, place: u16) -> Decoded
-    ensures { λ r. ⌜ r ≡ commandAt today header (entryAt (before s) place) (before s) at stage ⌝ }
+// described already, and `rested` where that has had a rest, or 0. What was accepted there is in range, since a rest is judged by it.
+pub fn decode(s: &[u8], at: usize, stage: u8, header: Header, place: u16, rested: u16) -> Decoded
+    requires { ⌜ EntryInRange (parts (header .gap)) (entryAt (now s) place rested) ⌝ }
+    ensures { λ r. ⌜ r ≡ commandAt today header (knownAt (before s) place rested) (before s) at stage ⌝ }
 {
     let length = s.len();
     if SHEET_BYTES < length {
@@ -107,5 +113,5 @@ pub fn decode(s: &[u8], at: usize, stage: u8, header: Header, place: u16) -> Dec
             next: at,
         };
     }
-    row_at(s, at, code, header, place)
+    row_at(s, at, code, header, place, rested)
 }

@@ -46,22 +46,22 @@ entry-found l i x e = rw (e, limit-same (gapOf l) (entryOf l i) (silenced (l .ma
 -- ---- as the code goes
 
 -- an index of a sheet, and the limits of the first i tones of its line in the buffer
-pub record WritingOf (s : List ℕ) (h : Header) (places maps out₀ out : List ℕ) (i : ℕ) : Type 0 where
-  pub index : SoundIndex s h places maps
+pub record WritingOf (s : List ℕ) (h : Header) (places rests maps out₀ out : List ℕ) (i : ℕ) : Type 0 where
+  pub index : SoundIndex s h places rests maps
   pub inside : i ≤ h .size
   pub entries : Written (limitsBelow (index .indexed .line)) out₀ 0 i out (limitBytesATone * i)
 
-pub writing-starts : {s places maps : List ℕ} {h : Header} → Bytes s → Indexed s h places maps → (out : List ℕ) → WritingOf s h places maps out out 0
+pub writing-starts : {s places rests maps : List ℕ} {h : Header} → Bytes s → Indexed s h places rests maps → (out : List ℕ) → WritingOf s h places rests maps out out 0
 writing-starts b x out = record { index = sound-index b x; inside = omega arith; entries = written-none (limits-grow (x .line)) out 0 }
 
-module _ {s places maps out₀ out : List ℕ} {h : Header} {i : ℕ} (W : WritingOf s h places maps out₀ out i) where
+module _ {s places rests maps out₀ out : List ℕ} {h : Header} {i : ℕ} (W : WritingOf s h places rests maps out₀ out i) where
   abbrev line : Line
   line = W .index .indexed .line
 
-  -- one tone more, as the code finds it at its place
-  pub written-limit : i < h .size → (q : Bool) → q ≡ silenced maps i → (x : Steps) → x ≡ entrySteps (parts (h .gap)) (entryAt s (getD places i 0)) q
+  -- one tone more, as the code finds it at its places
+  pub written-limit : i < h .size → (q : Bool) → q ≡ silenced maps i → (x : Steps) → x ≡ entrySteps (parts (h .gap)) (entryAt s (getD places i 0) (getD rests i 0)) q
       → {out′ : List ℕ} → out′ ≡ sets out (limitBytesATone * i) (x .limit .bits ∷ setByNumber (x .limit .by) ∷ [])
-      → WritingOf s h places maps out₀ out′ (i + 1)
+      → WritingOf s h places rests maps out₀ out′ (i + 1)
   written-limit l q silent x e stored = record {
     index = W .index;
     inside = omega arith;

@@ -60,8 +60,15 @@ fn put_limit(out: &mut [u8], at: usize, limit: Limit)
 }
 
 // The limits of the line that an index of the sheet stands for, from the buffer's start on.
-fn put_limits(out: &mut [u8], s: &[u8], header: Header, places: &[u16; TONES], maps: &[u32; WORDS])
-    requires { ⌜ Indexed (now s) header (now places) (now maps) ⌝ }
+fn put_limits(
+    out: &mut [u8],
+    s: &[u8],
+    header: Header,
+    places: &[u16; TONES],
+    rests: &[u16; TONES],
+    maps: &[u32; WORDS],
+)
+    requires { ⌜ Indexed (now s) header (now places) (now rests) (now maps) ⌝ }
     requires { ⌜ limitBytesATone * header .size ≤ length (now out) ⌝ }
     ensures { λ r. ⌜ ((l : Line) → reading (before s) ≡ accepted l → after out ≡ sets (before out) 0 (limitBytes l)) ⌝ }
 {
@@ -71,7 +78,7 @@ fn put_limits(out: &mut [u8], s: &[u8], header: Header, places: &[u16; TONES], m
     while i < header.size as usize {
         let tone = i as u8;
         let silenced = silence::is_silenced(maps, tone);
-        let steps = arrays::steps_at(s, parts, places[i], silenced);
+        let steps = arrays::steps_at(s, parts, places[i], rests[i], silenced);
         let limit = steps.limit;
         put_limit(out, LIMIT_BYTES * i, limit);
         i += 1;
@@ -85,15 +92,16 @@ pub fn limits(s: &[u8], out: &mut [u8]) -> Limited
     ensures bytes { λ r. ⌜ after out ≡ afterWriting (limiting (reading (before s)) (length (before out))) (before out) ⌝ }
 {
     let mut places: [u16; TONES] = [0; TONES];
+    let mut rests: [u16; TONES] = [0; TONES];
     let mut maps: [u32; WORDS] = [0; WORDS];
-    let read = sheet::read_sheet(s, &mut places, &mut maps);
+    let read = sheet::read_sheet(s, &mut places, &mut rests, &mut maps);
     match read {
         Read::Refused(refusal) => Limited::Refused(refusal),
         Read::Accepted(header) => {
             if out.len() < LIMIT_BYTES * header.size as usize {
                 return Limited::Refused(Refusal::DestinationTooSmall);
             }
-            put_limits(out, s, header, &places, &maps);
+            put_limits(out, s, header, &places, &rests, &maps);
             Limited::Written
         }
     }

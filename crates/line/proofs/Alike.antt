@@ -25,4 +25,4 @@ pub loads-alike : (l : Line) (g h : Gap) → parts g ≡ parts h → tones (with
 loads-alike l g h e = ap at e
   where
     at : (n : ℕ) → Tones
-    at n = record { count = l .size; limit = λ i. entryLimit n (entryOf l i) (silenced (l .maps) i); power = λ i b. entryPower n (entryOf l i) b }
+    at n = record { count = l .size; limit = λ i. entryLimit n (entryOf l i) (silenced (l .maps) i); power = λ i b. entryPower n (entryOf l i) (silenced (l .maps) i) b }

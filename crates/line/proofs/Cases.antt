@@ -23,7 +23,7 @@ use Rattle.line.specs.declared.SetBy.the-variants.{Silent, Cap, Mask}
 use Rattle.line.specs.Tone.{wholeCost, kindCost, cost, kindPower, largest, limit, setBy}
 use Rattle.line.specs.Tries.{tries}
 use Rattle.line.specs.Line.{EntryInRange, gapOf, entryOf, LineInRange, setByAt}
-use Rattle.line.specs.Cases.{Case, most, granted, refused, never, refits, costs, readingCosts, overCosts, limits, limitsBy, sampleLimits, tried, tenths, tone, readTone, sample, sampleTones, Through, CaseHolds, cases}
+use Rattle.line.specs.Cases.{Case, most, granted, refused, never, refits, costs, readingCosts, overCosts, limits, limitsBy, sampleLimits, tried, tenths, tone, readTone, sample, sampleTones, noRests, Through, CaseHolds, cases}
 use Rattle.line.proofs.Loads.{line-rising, no-bits-fit}
 
 -- ---- tests that give a proof where they pass
@@ -89,7 +89,7 @@ through rule t (u ∷ us) = both (sameAnswer (rule t) (moved u)) (through rule u
 
 -- ---- the sample line
 
-sample-in-range : LineInRange (sample 0)
+sample-in-range : LineInRange (sample noRests 0)
 unfolding kindCost
 sample-in-range = record {
   size-low = omega arith;
@@ -99,15 +99,16 @@ sample-in-range = record {
   entries = entries;
 }
   where
-    entries : (i : ℕ) → i < 3 → EntryInRange (gapOf (sample 0)) (entryOf (sample 0) i)
+    entries : (i : ℕ) → i < 3 → EntryInRange (gapOf (sample noRests 0)) (entryOf (sample noRests 0) i)
     entries zero l = search needs
     entries (suc zero) l = search needs
     entries (suc (suc zero)) l = search needs
     entries (suc (suc (suc i))) l = absurd (omega arith)
 
-never-carried : (target : ℕ) → sumOfLimits sampleTones < target → (budget : ℕ) → setBits sampleTones budget target ≡ none
+never-carried : (target : ℕ) → sumOfLimits (sampleTones noRests) < target → (budget : ℕ) → setBits (sampleTones noRests) budget target ≡ none
+unfolding sum
 never-carried target h budget =
-    too-many sampleTones (line-rising (sample 0) sample-in-range) budget (no-bits-fit (sample 0) sample-in-range budget) target h
+    too-many (sampleTones noRests) (line-rising (sample noRests 0) sample-in-range) budget (no-bits-fit (sample noRests 0) budget (omega arith)) target h
 
 -- ---- a gap in tenths of a decibel
 
@@ -119,21 +120,23 @@ is-gap d g p = sym (right-is d g (p .0) (p .1))
 
 unfoldable row : (r : Case) → Option (CaseHolds r)
 unfolding test true? both onward sameBool same sameAnswer sameLoading sameSetBy through
-row (most budget bits power allBits allPower) =
-    both (both (same (mostBits sampleTones budget .table) bits) (same (powers sampleTones bits) power))
-    (both (test (ℕ-discrete (totalBits sampleTones bits) allBits)) (test (ℕ-discrete (totalPower sampleTones bits) allPower)))
-row (granted target budget bits) = sameLoading (setBits sampleTones budget target) (some bits)
-row (refused target budget) = sameLoading (setBits sampleTones budget target) none
-row (never target) = onward (never-carried target) (test (decLt (sumOfLimits sampleTones) target))
-row (refits budget start tables) =
-    both (through (refitStep sampleTones budget) start tables) (test (ℕ-discrete (refitRun sampleTones budget start .moves) (length tables)))
+row (most rests budget bits power allBits allPower) =
+    let T = sampleTones rests in
+    both (both (same (mostBits T budget .table) bits) (same (powers T bits) power))
+    (both (test (ℕ-discrete (totalBits T bits) allBits)) (test (ℕ-discrete (totalPower T bits) allPower)))
+row (granted rests target budget bits) = sameLoading (setBits (sampleTones rests) budget target) (some bits)
+row (refused rests target budget) = sameLoading (setBits (sampleTones rests) budget target) none
+row (never target) = onward (never-carried target) (test (decLt (sumOfLimits (sampleTones noRests)) target))
+row (refits rests budget start tables) =
+    let T = sampleTones rests in
+    both (through (refitStep T budget) start tables) (test (ℕ-discrete (refitRun T budget start .moves) (length tables)))
 row (costs gap noise gain w) = test (ℕ-discrete (cost gap (tone Pair noise gain 0 0)) w)
 row (readingCosts gap r w) = both (sameBool (isOver gap r) false) (test (ℕ-discrete (cost gap (readTone r)) w))
 row (overCosts gap r) = sameBool (isOver gap r) true
 row (limits w mask b) = test (ℕ-discrete (limit (tone Pair 1 1 15 mask) w) b)
 row (limitsBy w cap mask b by) =
     both (test (ℕ-discrete (limit (tone Pair 1 1 cap mask) w) b)) (sameSetBy (setBy (tone Pair 1 1 cap mask) w) by)
-row (sampleLimits i b by) = both (test (ℕ-discrete (sampleTones .limit i) b)) (sameSetBy (setByAt (sample 0) i) by)
+row (sampleLimits i b by) = both (test (ℕ-discrete (sampleTones noRests .limit i) b)) (sameSetBy (setByAt (sample noRests 0) i) by)
 row (tried kind w cap mask n) = test (ℕ-discrete (tries (tone kind 1 1 cap mask) w) n)
 row (tenths d g) = onward (is-gap d g) (both (true? (right d g)) (test (decLe d mostTenths)))
 

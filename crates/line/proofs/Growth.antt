@@ -107,6 +107,13 @@ step-rises t w b l =
 pub power-zero : (t : Tone) (w : ℕ) → power t w 0 ≡ 0
 power-zero t w = let e : doublings t * 0 ≡ 0 = omega arith in rw (power-is t w 0, e) (omega arith)
 
+-- the power of 1 bit is no less than the cost
+pub power-one : (t : Tone) (w : ℕ) → w ≤ power t w 1
+power-one t w =
+    let e : doublings t * 1 ≡ doublings t = omega arith in
+    let two : 2 ≤ 2 ^ doublings t = pow-mono {i = 1} (doublings-low (t .kind)) in
+    rw (power-is t w 1, e) (omega (arith, mul-le-mul-left w two))
+
 -- a shift that the ranges allow
 pub shift-at-most : (t : Tone) (b : ℕ) → b ≤ boundsOf t .cap → BoundsInRange t → doublings t * b ≤ 15
 shift-at-most t b h I = shift-high (t .kind) b (boundsOf t .cap) h (I .cap-high)

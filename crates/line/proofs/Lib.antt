@@ -5,6 +5,7 @@ pub mod Powers
 pub mod Limits
 pub mod Tries
 pub mod Masks
+pub mod Rested
 pub mod Loads
 pub mod Arrays
 pub mod Cases

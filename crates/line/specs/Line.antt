@@ -3,27 +3,32 @@
 -- Assumes nothing.
 use mathlib.Core.Bool.{Bool, true, false}
 use mathlib.Core.List.{List}
-use Prim.Native.Nat.{ℕ, _≤_, _<_}
+use Prim.Native.Nat.{ℕ, zero, suc, _≤_, _<_}
 use lib.ListN.{getD}
 use Rattle.sizes.specs.Sizes.{mostTones, mostPower}
 use Rattle.silence.specs.Map.{silenced}
-use Rattle.steps.specs.Tones.{Tones}
+use Rattle.steps.specs.Tones.{Tones, sum}
 use Rattle.gaps.specs.declared.Gap.{Gap}
 use Rattle.gaps.specs.Gap.{parts, GapInRange}
 use Rattle.line.specs.declared.Tone.{Tone}
 use Rattle.line.specs.declared.SetBy.{SetBy}
 use Rattle.line.specs.declared.SetBy.the-variants.{Silent}
 use Rattle.line.specs.declared.Steps.{Steps}
-use Rattle.line.specs.Tone.{boundsOf, InRange, cost, power, limit, setBy, limitOf, doublings}
+use Rattle.line.specs.Tone.{boundsOf, InRange, RestInRange, cost, power, limit, setBy, limitOf, doublings}
 
--- a tone of a line: not described, or described, with what it carries
+-- a tone of a line: not described, or described, with what it carries and its rest; W6: 'the rest, 0 where none is given'
 pub data Entry : Type 0 where
   undescribed : Entry
-  described : Tone → Entry
+  described : Tone → (rest : ℕ) → Entry
 
 abbrev pub isDescribed : Entry → Bool
 isDescribed undescribed = false
-isDescribed (described t) = true
+isDescribed (described t r) = true
+
+-- a described tone with another rest
+abbrev pub withRest : (rest : ℕ) → Entry → Entry
+withRest rest undescribed = undescribed
+withRest rest (described t r) = described t rest
 
 -- 'A line is N, gap, budget, the described tones with what they carry, and the set of silenced tones': an entry for each of the N tones,
 -- and the silence maps of as many words as the N tones take. W1: which command gave the gap 'belongs to the line'.
@@ -46,40 +51,55 @@ entryOf l i = getD (l .entries) i undescribed
 abbrev pub entryLimit : (g : ℕ) → Entry → (silenced : Bool) → ℕ
 entryLimit g e true = 0
 entryLimit g undescribed false = 0
-entryLimit g (described t) false = limit t (cost g t)
+entryLimit g (described t r) false = limit t (cost g t)
 
 -- W3, what set it: 'every other tone is silent'
 abbrev pub entrySetBy : (g : ℕ) → Entry → (silenced : Bool) → SetBy
 entrySetBy g e true = Silent
 entrySetBy g undescribed false = Silent
-entrySetBy g (described t) false = setBy t (cost g t)
+entrySetBy g (described t r) false = setBy t (cost g t)
 
--- the power of b bits: 'no bits, no power', and a tone not described carries none
-abbrev pub entryPower : (g : ℕ) → Entry → (b : ℕ) → ℕ
-entryPower g undescribed b = 0
-entryPower g (described t) b = power t (cost g t) b
+-- W6: 'a tone that carries no bits .. sends its rest power', 'A silenced tone sends nothing'; and one not described has none
+abbrev pub entryRest : Entry → (silenced : Bool) → ℕ
+entryRest e true = 0
+entryRest undescribed false = 0
+entryRest (described t r) false = r
+
+-- the power of b bits; W6: 'The power at no bits becomes the rest'. A tone not described carries none.
+abbrev pub entryPower : (g : ℕ) → Entry → (silenced : Bool) → (b : ℕ) → ℕ
+entryPower g e q zero = entryRest e q
+entryPower g undescribed q (suc b) = 0
+entryPower g (described t r) q (suc b) = power t (cost g t) (suc b)
 
 -- the mask of a tone, 0 where none is described
 abbrev pub entryMask : Entry → ℕ
 entryMask undescribed = 0
-entryMask (described t) = boundsOf t .mask
+entryMask (described t r) = boundsOf t .mask
 
 -- The tones of a line, with the limits and powers that the runs go by.
 abbrev pub tones : Line → Tones
 tones l = record {
   count = l .size;
   limit = λ i. entryLimit (gapOf l) (entryOf l i) (silenced (l .maps) i);
-  power = λ i b. entryPower (gapOf l) (entryOf l i) b;
+  power = λ i b. entryPower (gapOf l) (entryOf l i) (silenced (l .maps) i) b;
 }
 
 -- what set the limit of tone i of a line
 abbrev pub setByAt : Line → (i : ℕ) → SetBy
 setByAt l i = entrySetBy (gapOf l) (entryOf l i) (silenced (l .maps) i)
 
--- the ranges of what an entry carries, at the line's gap
+-- the rest of tone i of a line, as it sends it
+abbrev pub restOf : Line → (i : ℕ) → ℕ
+restOf l i = entryRest (entryOf l i) (silenced (l .maps) i)
+
+-- W6: 'rests of unsilenced tones add up to'
+abbrev pub restTotal : Line → ℕ
+restTotal l = sum (l .size) (restOf l)
+
+-- the ranges of what an entry carries, at the line's gap; W6, of its rest what 15 leaves
 abbrev pub EntryInRange : (g : ℕ) → Entry → Type 0
 EntryInRange g undescribed = Unit {0}
-EntryInRange g (described t) = InRange g t
+EntryInRange g (described t r) = InRange g t × RestInRange g t r
 
 -- the ranges of a line: N from 1 to 256, the gap in its unit's range, the budget from 0 to 2^47, and those of each tone
 pub record LineInRange (l : Line) : Type 0 where
@@ -94,13 +114,13 @@ pub record LineInRange (l : Line) : Type 0 where
 abbrev pub noSteps : Steps
 noSteps = record { limit = record { bits = 0; by = Silent }; cost = 0; doublings = 0; rest = 0 }
 
-abbrev pub stepsOf : (g : ℕ) → Tone → Steps
-stepsOf g t = record { limit = limitOf t (cost g t); cost = cost g t; doublings = doublings t; rest = 0 }
+abbrev pub stepsOf : (g : ℕ) → Tone → (rest : ℕ) → Steps
+stepsOf g t rest = record { limit = limitOf t (cost g t); cost = cost g t; doublings = doublings t; rest = rest }
 
 abbrev pub entrySteps : (g : ℕ) → Entry → (silenced : Bool) → Steps
 entrySteps g e true = noSteps
 entrySteps g undescribed false = noSteps
-entrySteps g (described t) false = stepsOf g t
+entrySteps g (described t r) false = stepsOf g t r
 
 -- that of tone i of a line
 abbrev pub stepsAt : Line → (i : ℕ) → Steps

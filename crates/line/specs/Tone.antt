@@ -1,8 +1,8 @@
--- One tone. Document 01, 'Cost, power and limit of a tone'; document 02, W3 and W5.
+-- One tone. Document 01, 'Cost, power and limit of a tone'; document 02, W3, W5 and W6.
 -- Assumes nothing.
 use mathlib.Core.Bool.{Bool, true, false, _&&_, cond}
 use mathlib.Core.Logic.{ite}
-use Prim.Native.Nat.{ℕ, zero, suc, _-_, _*_, _^_, _≤_}
+use Prim.Native.Nat.{ℕ, zero, suc, _-_, _*_, _^_, _≤_, _<_}
 use native.Mathlib.Decide.{decLe}
 use lib.Dec.{leb, ltb}
 use Rattle.sizes.specs.Sizes.{pairCap, singleCap, mostPower, mostCost}
@@ -85,7 +85,16 @@ pub record InRange (g : ℕ) (t : Tone) : Type 0 where
   pub bounds : BoundsInRange t
   pub cost : Cost (cost g t)
 
--- 'Power of b bits: pair w × (2^b − 1), single w × (4^b − 1). No bits, no power.' W5: 'Such a tone is a pair tone to all the loadings.'
+-- W6, refusal 15: 'the rest is not below the cost or is above the mask'; else it is one that the tone takes
+abbrev pub isRest : (g : ℕ) → Tone → (rest : ℕ) → Bool
+isRest g t rest = ltb rest (cost g t) && leb rest (boundsOf t .mask)
+
+pub record RestInRange (g : ℕ) (t : Tone) (rest : ℕ) : Type 0 where
+  pub below-cost : rest < cost g t
+  pub within-mask : rest ≤ boundsOf t .mask
+
+-- 'Power of b bits: pair w × (2^b − 1), single w × (4^b − 1). No bits, no power.' W5: 'Such a tone is a pair tone to all the loadings.' W6 puts the
+-- rest in the place of the power at no bits: `entryPower` of specs/Line.antt.
 unfoldable pub kindPower : Kind → (w b : ℕ) → ℕ
 kindPower (Pair n) w b = w * (2 ^ b - 1)
 kindPower (Single n) w b = w * (4 ^ b - 1)

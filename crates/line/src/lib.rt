@@ -1,9 +1,9 @@
-// One tone of a line: document 01, 'Cost, power and limit of a tone'; document 02, W3, W4 and W5.
+// One tone of a line: document 01, 'Cost, power and limit of a tone'; document 02, W3 to W6.
 ghost use mathlib.Core.Path.{_≡_};
 ghost use Prim.Native.Nat.{_*_, _^_, _≤_, _<_};
 ghost use Rattle.line.specs.Line.{stepsOf};
 ghost use Rattle.line.specs.Arrays.{powerOf, powerIn};
-ghost use Rattle.line.specs.Tone.{mostCap, boundsOf, doublings, NumbersInRange, BoundsInRange, InRange, Cost, wholeCost, cost, limitOf};
+ghost use Rattle.line.specs.Tone.{mostCap, boundsOf, doublings, NumbersInRange, BoundsInRange, InRange, Cost, wholeCost, cost, isRest, limitOf};
 ghost use Rattle.line.specs.Tries.{tries};
 use gaps::GAP_UNIT;
 use readings::Reading;
@@ -196,10 +196,19 @@ fn limit_of(tone: Tone, cost: u32) -> Tried
     }
 }
 
-// What is found of a tone that is described and not silenced.
-pub fn steps_of(gap: u16, tone: Tone) -> Steps
+// Whether a tone takes a rest: one below its cost and within its mask.
+pub fn is_rest(gap: u16, tone: Tone, rest: u32) -> bool
     requires { ⌜ InRange gap tone ⌝ }
-    ensures { λ r. ⌜ r ≡ stepsOf gap tone ⌝ }
+    ensures { λ r. ⌜ r ≡ isRest gap tone rest ⌝ }
+{
+    let bounds = bounds_of(tone);
+    rest < cost(gap, tone) && rest as u64 <= bounds.mask
+}
+
+// What is found of a tone with a rest that is described and not silenced.
+pub fn steps_of(gap: u16, tone: Tone, rest: u32) -> Steps
+    requires { ⌜ InRange gap tone ⌝ }
+    ensures { λ r. ⌜ r ≡ stepsOf gap tone rest ⌝ }
 {
     let w = cost(gap, tone);
     let tried = limit_of(tone, w);
@@ -208,6 +217,6 @@ pub fn steps_of(gap: u16, tone: Tone) -> Steps
         limit: limit,
         cost: w,
         doublings: doublings(tone),
-        rest: 0,
+        rest: rest,
     }
 }

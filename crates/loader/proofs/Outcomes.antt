@@ -2,10 +2,10 @@
 -- Assumes nothing.
 use mathlib.Core.List.{List}
 use mathlib.Core.Path.{_≡_, refl, fun-ext}
-use Prim.Native.Nat.{ℕ}
+use Prim.Native.Nat.{ℕ, _≤_}
 use Rattle.sizes.specs.Sizes.{mostBitsOfAll}
 use Rattle.steps.specs.Tones.{Tones}
-use Rattle.line.specs.Line.{Line, LineInRange, tones}
+use Rattle.line.specs.Line.{Line, restTotal, LineInRange, tones}
 use Rattle.line.specs.Arrays.{Arrays, ArraysOf}
 use Rattle.line.proofs.Loads.{line-rising, no-bits-fit}
 use Rattle.line.proofs.Masks.{limits-high}
@@ -16,7 +16,7 @@ use Rattle.loadings.specs.Loads.{Loading, turned-down, Loadable, SomeTones, For
 use Rattle.loadings.specs.Refits.{refitUpTo, refitOn, stepOn}
 use Rattle.loadings.proofs.UpTo.{whole-refit, single-step}
 use Rattle.sheet.specs.Reading.{Meaning, accepted, refused, reading}
-use Rattle.sheet.proofs.Sound.{Bytes, accepted-sound}
+use Rattle.sheet.proofs.Sound.{Bytes, accepted-sound, accepted-fits}
 use Rattle.sheet.specs.declared.Read.{Read}
 use Rattle.sheet.specs.declared.Read.the-variants as read
 use Rattle.arrays.specs.Tones.{TonesOf}
@@ -34,17 +34,17 @@ module _ {r : Read} {old new : Arrays} {m : Meaning} (x : TonesOf r old new m) w
 
 -- ---- the loading of a line's tones
 
-pub line-loadable : (l : Line) → LineInRange l → {A : Arrays} → ArraysOf l A → Loadable (l .size) (l .budget) A (tones l)
-line-loadable l I {A} h = record {
+pub line-loadable : (l : Line) → LineInRange l → restTotal l ≤ l .budget → {A : Arrays} → ArraysOf l A → Loadable (l .size) (l .budget) A (tones l)
+line-loadable l I fits {A} h = record {
   in-range = line-arrays-in-range l I A h;
   describes = line-describes l I A h;
   rising = line-rising l I;
-  none-fits = no-bits-fit l I (l .budget);
+  none-fits = no-bits-fit l (l .budget) fits;
 }
 
 module _ {h : Header} {A : Arrays} {m : Meaning} (x : HeldLine h A m) where
   held-loadable : Loadable (h .size) (h .budget) A (tones (x .line))
-  held-loadable = rw (← x .header-is) (line-loadable (x .line) (x .in-range) (x .arrays-of))
+  held-loadable = rw (← x .header-is) (line-loadable (x .line) (x .in-range) (x .fits) (x .arrays-of))
 
   pub some-tones : SomeTones (h .size) (h .budget) A
   some-tones = record { tones = tones (x .line); loadable = held-loadable }
@@ -62,14 +62,14 @@ not-loaded e on = rw e
 
 pub whole : (s : List ℕ) → Bytes s → (start : List ℕ) → refitBy mostBitsOfAll s start ≡ refit s start
 unfolding refitBy refit
-whole s b start = fun-ext (λ room. by room (reading s) (λ l e. accepted-sound s b l e .in-range))
+whole s b start = fun-ext (λ room. by room (reading s) (λ l e. (accepted-sound s b l e .in-range, accepted-fits s l e)))
   where
-    by : (room : ℕ) (m : Meaning) → ((l : Line) → m ≡ accepted l → LineInRange l)
+    by : (room : ℕ) (m : Meaning) → ((l : Line) → m ≡ accepted l → LineInRange l × (restTotal l ≤ l .budget))
         → onLine m (λ T budget. refitUpTo mostBitsOfAll T budget start room) ≡ onLine m (λ T budget. refitOn T budget start room)
     by room (refused q) f = refl
     by room (accepted l) f =
-        let I = f l refl in
-        whole-refit (tones l) (line-rising l I) (limits-high l I) (l .budget) (no-bits-fit l I (l .budget)) start room
+        let k = f l refl in
+        whole-refit (tones l) (line-rising l (k .0)) (limits-high l (k .0)) (l .budget) (no-bits-fit l (l .budget) (k .1)) start room
 
 pub single : (s start : List ℕ) → refitBy 1 s start ≡ oneStep s start
 unfolding refitBy oneStep

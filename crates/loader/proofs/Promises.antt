@@ -11,7 +11,7 @@ use Rattle.sizes.specs.Sizes.{bytesATone, mostBitsOfAll}
 use Rattle.steps.specs.Tones.{Table, noBits, KeepsLimits, KeepsBudget}
 use Rattle.steps.specs.Runs.{mostBits, refitRun}
 use Rattle.steps.specs.Claims.{Best, Demand3}
-use Rattle.line.specs.Line.{Line, LineInRange, tones}
+use Rattle.line.specs.Line.{Line, restTotal, LineInRange, tones}
 use Rattle.line.proofs.Loads.{line-demand-3, line-set-bits, no-bits-keep}
 use Rattle.starts.proofs.First.{none-above}
 use Rattle.tables.specs.Tables.{tableBytes}
@@ -23,7 +23,7 @@ use Rattle.loadings.specs.Refits.{refitOn, refitAnswer, refitNumbers, refitOutc
 use Rattle.refusals.specs.Writing.{afterWriting}
 use Rattle.refusals.proofs.Writing.{fits}
 use Rattle.sheet.specs.Reading.{accepted, reading}
-use Rattle.sheet.proofs.Sound.{Bytes, accepted-sound}
+use Rattle.sheet.proofs.Sound.{Bytes, accepted-sound, accepted-fits}
 use Rattle.tidyform.specs.Tidy.{tidy}
 use Rattle.tidyform.proofs.Tidied.{tidy-keeps}
 use Rattle.tidy.specs.Tidying.{tidying}
@@ -35,13 +35,16 @@ module _ (sheet : List ℕ) (b : Bytes sheet) (l : Line) (e : reading sheet ≡ 
   in-range : LineInRange l
   in-range = accepted-sound sheet b l e .in-range
 
+  rests-fit : restTotal l ≤ l .budget
+  rests-fit = accepted-fits sheet l e
+
   most-is : loadMost sheet (length old) ≡ loaded (tones l) (mostBits (tones l) (l .budget))
   unfolding loadMost mostOn
   most-is = simp (e, le-ltb (length old) (bytesATone * l .size) h)
 
   module _ (start : List ℕ) (w : KeepsLimits (tones l) start) where
     D : Demand3 (tones l) (l .budget) start
-    D = line-demand-3 l in-range start w
+    D = line-demand-3 l in-range rests-fit start w
 
     refit-is : refit sheet start (length old) ≡ loaded (tones l) (refitRun (tones l) (l .budget) start)
     unfolding refit refitOn
@@ -62,7 +65,7 @@ module _ (sheet : List ℕ) (b : Bytes sheet) (l : Line) (e : reading sheet ≡ 
 
   -- adding from nothing, seen as a re-fit from no bits
   from-none : Demand3 (tones l) (l .budget) (noBits (tones l))
-  from-none = line-demand-3 l in-range (noBits (tones l)) (no-bits-keep l in-range)
+  from-none = line-demand-3 l in-range rests-fit (noBits (tones l)) (no-bits-keep l in-range)
 
   pub most-bits : {r : Loaded} → r ≡ loadAnswer (loadMost sheet (length old)) → new ≡ afterLoading (loadMost sheet (length old)) old → MostBits (tones l) (l .budget) r old new
   most-bits a n = record {
@@ -78,7 +81,7 @@ module _ (sheet : List ℕ) (b : Bytes sheet) (l : Line) (e : reading sheet ≡ 
   unfolding loadTarget targetOn
   target-met target a = record {
     answers = simp (e, le-ltb (length old) (bytesATone * l .size) h) at a;
-    carries = line-set-bits l in-range target;
+    carries = line-set-bits l in-range rests-fit target;
   }
 
 -- ---- what each call has to show: its answer, that in the paper's numbers, the buffer, and its promise

@@ -1,4 +1,4 @@
--- What the command at a place of a sheet carries: the tone that it addresses, and the tone that it describes.
+-- What the command at a place of a sheet carries: the tone that it addresses, the tone that it describes, and the rest that it gives.
 -- Assumes nothing.
 use mathlib.Core.Bool.{cond}
 use mathlib.Core.List.{List}
@@ -51,7 +51,16 @@ kindAt code s place =
 abbrev pub toneAt : List ℕ → (place : ℕ) → Tone
 toneAt s place = record { kind = kindAt (getD s place 0) s place }
 
--- the entry of a tone whose command stands at a place, and 0 where none does: no tone's command stands at 0
-abbrev pub entryAt : List ℕ → (place : ℕ) → Entry
-entryAt s zero = undescribed
-entryAt s (suc p) = described (toneAt s (suc p))
+-- W6, 0B: 'tone and rest, 4 bytes'
+abbrev pub restAt : List ℕ → (place : ℕ) → ℕ
+restAt s place = numberAt s (place + 2) 4
+
+-- the rest whose command stands at a place, 'where none is given' 0: no command after the first three stands at 0
+abbrev pub restFrom : List ℕ → (place : ℕ) → ℕ
+restFrom s zero = 0
+restFrom s (suc p) = restAt s (suc p)
+
+-- the entry of a tone whose command stands at a place, undescribed where none does, and whose rest's at another
+abbrev pub entryAt : List ℕ → (place rest : ℕ) → Entry
+entryAt s zero rest = undescribed
+entryAt s (suc p) rest = described (toneAt s (suc p)) (restFrom s rest)

@@ -1,11 +1,11 @@
-// What stands at a place of a sheet: the tone that a command addresses, and the tone that it describes, decoded where it is wanted.
-// Document 01, 'The line sheet', and document 02, W5.
+// What stands at a place of a sheet: the tone that a command addresses, the tone that it describes and the rest that it gives, decoded where
+// they are wanted. Document 01, 'The line sheet', and document 02, W5 and W6.
 ghost use mathlib.Core.Path.{_≡_};
 ghost use Prim.Native.Nat.{_+_, _<_};
 ghost use lib.ListN.{getD};
 ghost use Rattle.sizes.specs.Sizes.{mostTones};
 ghost use Rattle.lists.specs.Lent.{before};
-ghost use Rattle.places.specs.Places.{addressed, numbersAt, floatAt, levelsAt, ratioAt, toneAt};
+ghost use Rattle.places.specs.Places.{addressed, numbersAt, floatAt, levelsAt, ratioAt, toneAt, restFrom};
 use line::Kind;
 use line::Numbers;
 use line::ReadNumbers;
@@ -102,4 +102,14 @@ pub fn tone_at(s: &[u8], place: u16) -> Tone
             kind: Kind::Pair(numbers_at(s, place)),
         },
     }
+}
+
+// The rest whose command stands at a place, or 0 where none does.
+pub fn rest_at(s: &[u8], place: u16) -> u32
+    ensures { λ r. ⌜ r ≡ restFrom (before s) place ⌝ }
+{
+    if place < 1 {
+        return 0;
+    }
+    bigendian::number_at(s, place as usize + 2, 4) as u32
 }

@@ -1,4 +1,4 @@
-// Why a sheet or a call is turned down, with number and place: document 01, 'Why a sheet is turned down', and document 02, W5.
+// Why a sheet or a call is turned down, with number and place: document 01, 'Why a sheet is turned down', and document 02, W5 and W6.
 ghost use mathlib.Core.Path.{_≡_};
 ghost use Rattle.refusals.specs.Refusals.{refusalNumber, refusalPlace};
 
@@ -17,6 +17,9 @@ pub enum Refusal {
     TargetNotCarried,
     FloatOutOfRange(u16),
     CostOutOfRange(u16),
+    ToneCannotTake(u16),
+    RestOutOfRange(u16),
+    RestsOverBudget,
 }
 
 // The number of a refusal in the documents' list.
@@ -37,6 +40,9 @@ pub fn refusal_number(refusal: Refusal) -> u32
         Refusal::TargetNotCarried => 11,
         Refusal::FloatOutOfRange(_) => 12,
         Refusal::CostOutOfRange(_) => 13,
+        Refusal::ToneCannotTake(_) => 14,
+        Refusal::RestOutOfRange(_) => 15,
+        Refusal::RestsOverBudget => 16,
     }
 }
 
@@ -58,5 +64,8 @@ pub fn refusal_place(refusal: Refusal) -> u32
         Refusal::TargetNotCarried => 0,
         Refusal::FloatOutOfRange(place) => place as u32,
         Refusal::CostOutOfRange(place) => place as u32,
+        Refusal::ToneCannotTake(place) => place as u32,
+        Refusal::RestOutOfRange(place) => place as u32,
+        Refusal::RestsOverBudget => 0,
     }
 }

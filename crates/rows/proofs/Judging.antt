@@ -1,8 +1,8 @@
 -- Laws of the rows:
 -- - `below`, `above`, `in-range`: what an operand with a range decides;
--- - `one-operand`, `silence-operands`: a command as a chain of tests at the places of its operands;
+-- - `one-operand`, `silence-operands`, `rest-operands`: a command as a chain of tests at the places of its operands;
 -- - `tone-operands`, `number-operands`, `level-operands`, `ratio-operands`, `cap-operands`: the same of a tone's, from one operand on;
--- - `described-at`: whether a tone is described, from its place;
+-- - `described-at`, `no-tone-yet`, `has-rest`, `no-rest-yet`, `rest-judged`: whether a tone is described and takes a rest, from its places;
 -- - `header-width`, `number-codes`, `tone-row`, `end-row`: the rows by their bytes, as the code finds them.
 -- Assumes nothing.
 use mathlib.Core.Path.{_≡_, refl, sym, _∙_}
@@ -22,16 +22,17 @@ use Rattle.bigendian.proofs.Numbers.{number-one}
 use Rattle.silence.specs.Map.{namesBeyond}
 use Rattle.gaps.specs.Gap.{parts}
 use Rattle.readings.specs.Reading.{isUsable, isOver}
-use Rattle.line.specs.Tone.{mostCap}
-use Rattle.line.specs.Line.{Entry, isDescribed}
+use Rattle.line.specs.Tone.{mostCap, isRest}
+use Rattle.line.specs.Line.{isDescribed}
 use Rattle.refusals.specs.declared.Refusal.{Refusal}
-use Rattle.refusals.specs.declared.Refusal.the-variants.{OperandOutOfRange, ToneBeyondLine, ToneRepeated, FloatOutOfRange, CostOutOfRange}
-use Rattle.places.specs.Places.{entryAt}
+use Rattle.refusals.specs.declared.Refusal.the-variants.{OperandOutOfRange, ToneBeyondLine, ToneRepeated, FloatOutOfRange, CostOutOfRange, ToneCannotTake, RestOutOfRange}
+use Rattle.places.specs.Places.{toneAt, entryAt}
+use Rattle.places.proofs.Entries.{entry-there}
 use Rattle.rows.specs.declared.Header.{Header}
 use Rattle.rows.specs.declared.Command.{Command}
-use Rattle.rows.specs.declared.Command.the-variants.{Describe, Silence, Refused}
-use Rattle.rows.specs.Rows.{within, capAndMask, numbers, levelsOf, ratioOf, levelOperands, ratioOperands, end, width, judged, describesFrom, rowAt}
-use Rattle.rows.specs.Codes.{silenceRow, ToneCode, toneOperands, toneRow, orEnd, rowOf}
+use Rattle.rows.specs.declared.Command.the-variants.{Describe, Rest, Silence, Refused}
+use Rattle.rows.specs.Rows.{Known, takesRest, isRestOf, within, rest, capAndMask, numbers, levelsOf, ratioOf, levelOperands, ratioOperands, end, width, judged, describesFrom, rowAt}
+use Rattle.rows.specs.Codes.{knownAt, silenceRow, ToneCode, toneOperands, toneRow, orEnd, rowOf}
 
 -- ---- operands
 
@@ -64,14 +65,14 @@ module _ (low high place : ℕ) (rest : Command) {v w : ℕ} (e : v ≡ w) where
 -- ---- the commands, with the places of their operands
 
 -- a command of one operand with a range
-pub one-operand : (h : Header) (known : Entry) (s : List ℕ) (at code w low high : ℕ) (does : Header → List ℕ → Command)
+pub one-operand : (h : Header) (known : Known) (s : List ℕ) (at code w low high : ℕ) (does : Header → List ℕ → Command)
     → rowAt h known s at (record { code = code; operands = within w low high ∷ []; does = does })
     ≡ ranged (number s (at + 1) w) low high (at + 1) (does h (number s (at + 1) w ∷ []))
 unfolding rowAt ranged
 one-operand h known s at code w low high does = simp judged-cond
 
 -- the silence command
-pub silence-operands : (h : Header) (known : Entry) (s : List ℕ) (at : ℕ)
+pub silence-operands : (h : Header) (known : Known) (s : List ℕ) (at : ℕ)
     → rowAt h known s at silenceRow
     ≡ ranged (getD s (at + 1) 0) 0 (mostWords - 1) (at + 1)
     (cond (namesBeyond (h .size) (getD s (at + 1) 0) (number s (at + 2) 4)) (Refused (ToneBeyondLine (at + 2)))
@@ -79,15 +80,25 @@ pub silence-operands : (h : Header) (known : Entry) (s : List ℕ) (at : ℕ)
 unfolding rowAt ranged
 silence-operands h known s at = simp (judged-cond, number-one, add-assoc)
 
+-- the rest command
+pub rest-operands : (h : Header) (known : Known) (s : List ℕ) (at : ℕ)
+    → rowAt h known s at rest
+    ≡ cond (leb (h .size) (getD s (at + 1) 0)) (Refused (ToneBeyondLine (at + 1)))
+    (cond (takesRest known)
+    (cond (isRestOf (parts (h .gap)) (known .entry) (number s (at + 2) 4)) (Rest (getD s (at + 1) 0)) (Refused (RestOutOfRange (at + 2))))
+    (Refused (ToneCannotTake (at + 1))))
+unfolding rowAt
+rest-operands h known s at = simp (judged-cond, number-one, add-assoc)
+
 -- a command that describes a tone, and then from one operand on
-pub tone-operands : (h : Header) (known : Entry) (s : List ℕ) (at code : ℕ)
+pub tone-operands : (h : Header) (known : Known) (s : List ℕ) (at code : ℕ)
     → rowAt h known s at (toneRow code)
     ≡ cond (leb (h .size) (getD s (at + 1) 0)) (Refused (ToneBeyondLine (at + 1)))
-    (cond (isDescribed known) (Refused (ToneRepeated (at + 1))) (describesFrom h known (getD s (at + 1) 0 ∷ []) s (at + 2) (toneOperands code)))
+    (cond (isDescribed (known .entry)) (Refused (ToneRepeated (at + 1))) (describesFrom h known (getD s (at + 1) 0 ∷ []) s (at + 2) (toneOperands code)))
 unfolding rowAt
 tone-operands h known s at code = simp (judged-cond, number-one, add-assoc)
 
-module _ (h : Header) (known : Entry) (s : List ℕ) (at i : ℕ) where
+module _ (h : Header) (known : Known) (s : List ℕ) (at i : ℕ) where
   pub number-operands : (isSingle : Bool) → (let noise = number s (at + 2) 2 in let gain = number s (at + 4) 2 in
       describesFrom h known (i ∷ []) s (at + 2) (numbers isSingle)
       ≡ ranged noise 1 65535 (at + 2)
@@ -124,9 +135,24 @@ module _ (h : Header) (known : Entry) (s : List ℕ) (at i : ℕ) where
   cap-operands values most = simp (judged-cond, number-one)
 
 -- a tone is described where its command has a place
-pub described-at : (s : List ℕ) (place : ℕ) → isDescribed (entryAt s place) ≡ ltb 0 place
-described-at s zero = refl
-described-at s (suc p) = sym (lt-ltb 0 (suc p) (omega arith))
+pub described-at : (s : List ℕ) (rest place : ℕ) → isDescribed (entryAt s place rest) ≡ ltb 0 place
+described-at s rest zero = refl
+described-at s rest (suc p) = sym (lt-ltb 0 (suc p) (omega arith))
+
+-- a tone takes a rest where its command has a place and its rest has none
+module _ (s : List ℕ) (place rest : ℕ) where
+  pub no-tone-yet : place ≤ 0 → takesRest (knownAt s place rest) ≡ false
+  no-tone-yet h = rw (described-at s rest place, le-ltb 0 place h)
+
+  pub has-rest : 0 < place → 0 < rest → takesRest (knownAt s place rest) ≡ false
+  has-rest h k = rw (described-at s rest place, lt-ltb 0 place h, lt-ltb 0 rest k)
+
+  pub no-rest-yet : 0 < place → rest ≤ 0 → takesRest (knownAt s place rest) ≡ true
+  no-rest-yet h k = rw (described-at s rest place, lt-ltb 0 place h, le-ltb 0 rest k)
+
+  -- then it is judged by the tone that stands there
+  pub rest-judged : (g v : ℕ) → 0 < place → isRestOf g (entryAt s place rest) v ≡ isRest g (toneAt s place) v
+  rest-judged g v h = rw (entry-there s rest place h)
 
 -- ---- the row of a command byte
 
@@ -151,9 +177,9 @@ tone-row code = ⊎-elim (⊎-elim (λ e. rw e) (λ e. rw e)) (⊎-elim (λ e. r
 
 -- 7, and every byte that is none of the other commands', is taken for the end
 pub end-row : (code : ℕ) → (code ≡ 1 → ⊥) → (code ≡ 2 → ⊥) → (code ≡ 3 → ⊥) → (code ≡ 4 → ⊥) → (code ≡ 5 → ⊥) → (code ≡ 6 → ⊥) → (code ≡ 8 → ⊥)
-    → (code ≡ 9 → ⊥) → (code ≡ 10 → ⊥) → rowOf code ≡ end
-end-row code p1 p2 p3 p4 p5 p6 p8 p9 p10 =
-    rw (ne-eqb code 1 p1, ne-eqb code 2 p2, ne-eqb code 8 p8, ne-eqb code 3 p3, ne-eqb code 4 p4, ne-eqb code 5 p5, ne-eqb code 6 p6, ne-eqb code 9 p9, ne-eqb code 10 p10)
+    → (code ≡ 9 → ⊥) → (code ≡ 10 → ⊥) → (code ≡ 11 → ⊥) → rowOf code ≡ end
+end-row code p1 p2 p3 p4 p5 p6 p8 p9 p10 p11 =
+    rw (ne-eqb code 1 p1, ne-eqb code 2 p2, ne-eqb code 8 p8, ne-eqb code 3 p3, ne-eqb code 4 p4, ne-eqb code 5 p5, ne-eqb code 6 p6, ne-eqb code 9 p9, ne-eqb code 10 p10, ne-eqb code 11 p11)
     (either (eqb code 7))
   where
     either : (t : Bool) → orEnd (cond t (some end) none) ≡ end

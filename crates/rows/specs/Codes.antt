@@ -1,4 +1,4 @@
--- The rows of document 01's sizes by their command bytes, as the code finds them.
+-- The rows of document 01's sizes by their command bytes, as the code finds them, and what it knows of a tone by its places.
 -- Assumes nothing.
 use mathlib.Core.Bool.{true, false, cond}
 use mathlib.Core.List.{List, _++_}
@@ -6,9 +6,14 @@ use mathlib.Core.Logic.{_⊎_}
 use mathlib.Core.Option.{Option, none, some}
 use mathlib.Core.Path.{_≡_}
 use Prim.Native.Nat.{ℕ, _+_}
-use lib.Dec.{eqb}
+use lib.Dec.{ltb, eqb}
 use Rattle.sizes.specs.Sizes.{mostTones, mostWords}
-use Rattle.rows.specs.Rows.{Operand, Row, size, describing, numbers, levelOperands, ratioOperands, silence, end, rowsOf, withCode, width}
+use Rattle.places.specs.Places.{entryAt}
+use Rattle.rows.specs.Rows.{Operand, Known, Row, size, describing, numbers, levelOperands, ratioOperands, silence, end, rowsOf, withCode, width}
+
+-- what is known of the tone whose command stands at a place, and whose rest's at another; 0 for none
+abbrev pub knownAt : List ℕ → (place rest : ℕ) → Known
+knownAt s place rest = record { entry = entryAt s place rest; rested = ltb 0 rest }
 
 abbrev pub sizeRow : Row
 sizeRow = size mostTones

@@ -1,6 +1,6 @@
--- The commands of a sheet, one row for each. Document 01, 'The line sheet' and 'Why a sheet is turned down'; document 02, W1 and W5.
+-- The commands of a sheet, one row for each. Document 01, 'The line sheet' and 'Why a sheet is turned down'; document 02, W1, W5 and W6.
 -- Assumes nothing.
-use mathlib.Core.Bool.{Bool, true, false, cond}
+use mathlib.Core.Bool.{Bool, true, false, not, _&&_, cond}
 use mathlib.Core.List.{List, [], _∷_, _++_}
 use mathlib.Core.Option.{Option, none, some}
 use Prim.Native.Nat.{ℕ, zero, suc, _+_, _-_}
@@ -14,20 +14,25 @@ use Rattle.gaps.specs.Gap.{gapUnit, mostGap, mostTenths, parts}
 use Rattle.readings.specs.declared.Reading.{Reading}
 use Rattle.readings.specs.declared.Reading.the-variants.{Both, Ratio}
 use Rattle.readings.specs.Reading.{isUsable, floatOf, isOver}
-use Rattle.line.specs.Tone.{mostCap}
-use Rattle.line.specs.Line.{Entry, isDescribed}
+use Rattle.line.specs.Tone.{mostCap, isRest}
+use Rattle.line.specs.Line.{Entry, undescribed, described, isDescribed}
 use Rattle.refusals.specs.declared.Refusal.{Refusal}
-use Rattle.refusals.specs.declared.Refusal.the-variants.{SheetEnds, OperandOutOfRange, ToneBeyondLine, ToneRepeated, FloatOutOfRange, CostOutOfRange}
+use Rattle.refusals.specs.declared.Refusal.the-variants.{SheetEnds, OperandOutOfRange, ToneBeyondLine, ToneRepeated, FloatOutOfRange, CostOutOfRange, ToneCannotTake, RestOutOfRange}
 use Rattle.rows.specs.declared.Header.{Header}
 use Rattle.rows.specs.declared.Command.{Command}
-use Rattle.rows.specs.declared.Command.the-variants.{End, Refused, Head, Describe, Silence}
+use Rattle.rows.specs.declared.Command.the-variants.{End, Refused, Head, Describe, Rest, Silence}
 use Rattle.rows.specs.declared.Decoded.{Decoded}
+
+-- What the reading knows of a tone: its entry so far, and whether it has had a 0B, 'even of rest 0', which is no part of the line.
+pub record Known : Type 0 where
+  pub entry : Entry
+  pub rested : Bool
 
 -- What judging an operand looks at besides its value: the header so far, what is known of the tone that the command addresses, and the
 -- operands before it.
 pub record Seen : Type 0 where
   pub header : Header
-  pub known : Entry
+  pub known : Known
   pub before : List ℕ
 
 -- An operand: its width in bytes, and the refusal that a value of it meets, if any, at the operand's first byte.
@@ -46,7 +51,7 @@ within width low high = record {
 abbrev pub toneNumber : (width : ℕ) → Operand
 toneNumber width = record {
   width = width;
-  judge = λ seen v place. cond (leb (seen .header .size) v) (some (ToneBeyondLine place)) (cond (isDescribed (seen .known)) (some (ToneRepeated place)) none);
+  judge = λ seen v place. cond (leb (seen .header .size) v) (some (ToneBeyondLine place)) (cond (isDescribed (seen .known .entry)) (some (ToneRepeated place)) none);
 }
 
 -- W5, refusal 12: 'a float is not finite or not above zero, placed at that float and judged where range 4 would be'
@@ -62,6 +67,27 @@ lastFloat back reading = record {
       cond (isUsable v)
       (cond (isOver (parts (seen .header .gap)) (reading (seen .before ++ (v ∷ [])))) (some (CostOutOfRange (place - back))) none)
       (some (FloatOutOfRange place));
+}
+
+-- W6, refusals 5 and then 14: 'the tone is in range but not yet described or has had a 0B already, even of rest 0, placed at the tone'
+abbrev pub takesRest : Known → Bool
+takesRest k = isDescribed (k .entry) && not (k .rested)
+
+abbrev pub restedTone : (width : ℕ) → Operand
+restedTone width = record {
+  width = width;
+  judge = λ seen v place. cond (leb (seen .header .size) v) (some (ToneBeyondLine place)) (cond (takesRest (seen .known)) none (some (ToneCannotTake place)));
+}
+
+-- W6, refusal 15: 'the rest is not below the cost or is above the mask, placed at the rest', by the cost at the line's gap
+abbrev pub isRestOf : (g : ℕ) → Entry → (rest : ℕ) → Bool
+isRestOf g undescribed rest = false
+isRestOf g (described t r) rest = isRest g t rest
+
+abbrev pub restOperand : Operand
+restOperand = record {
+  width = 4;
+  judge = λ seen v place. cond (isRestOf (parts (seen .header .gap)) (seen .known .entry) v) none (some (RestOutOfRange place));
 }
 
 -- refusal 5: 'a map names such a tone'; the word stands before it
@@ -145,6 +171,10 @@ levels = describing 0x09 levelOperands
 abbrev pub ratio : Row
 ratio = describing 0x0a ratioOperands
 
+-- W6: 'Command 0B gives tone and rest, 4 bytes'
+abbrev pub rest : Row
+rest = record { code = 0x0b; operands = restedTone 1 ∷ restOperand ∷ []; does = λ h v. Rest (getD v 0 0) }
+
 -- 06 silence: 'word 1 (0 to 7), map 4'. The words are the format's.
 abbrev pub silence : (words : ℕ) → Row
 silence words = record { code = 0x06; operands = within 1 0 (words - 1) ∷ map ∷ []; does = λ h v. Silence (getD v 0 0) (getD v 1 0) }
@@ -174,9 +204,16 @@ readingRows (suc zero) = []
 readingRows (suc (suc zero)) = []
 readingRows (suc (suc (suc n))) = levels ∷ ratio ∷ []
 
+-- W6: 0B stands 'after the tone's own command', which 14 judges
+abbrev pub restRows : (stage : ℕ) → List Row
+restRows zero = []
+restRows (suc zero) = []
+restRows (suc (suc zero)) = []
+restRows (suc (suc (suc n))) = rest ∷ []
+
 -- those of document 01 and of the requests, in the order in which they came
 abbrev pub rowsOf : (tones words stage : ℕ) → List Row
-rowsOf tones words stage = (firstRows tones words stage ++ tenthsRows stage) ++ readingRows stage
+rowsOf tones words stage = ((firstRows tones words stage ++ tenthsRows stage) ++ readingRows stage) ++ restRows stage
 
 abbrev pub withCode : List Row → (code : ℕ) → Option Row
 withCode [] code = none
@@ -199,16 +236,16 @@ operandsFrom seen s at (o ∷ os) does =
     (operandsFrom (record { header = seen .header; known = seen .known; before = seen .before ++ (number s at (o .width) ∷ []) }) s (at + o .width) os does)
 
 -- what a command that describes a tone does from an operand on, of the values before it
-abbrev pub describesFrom : Header → (known : Entry) → (values : List ℕ) → List ℕ → (at : ℕ) → List Operand → Command
+abbrev pub describesFrom : Header → (known : Known) → (values : List ℕ) → List ℕ → (at : ℕ) → List Operand → Command
 describesFrom h known values s at os = operandsFrom (record { header = h; known = known; before = values }) s at os (λ v. Describe (getD v 0 0))
 
 -- What the command of a row does at a place, all of whose bytes are there.
-unfoldable pub rowAt : Header → (known : Entry) → List ℕ → (at : ℕ) → Row → Command
+unfoldable pub rowAt : Header → (known : Known) → List ℕ → (at : ℕ) → Row → Command
 rowAt h known s at r = operandsFrom (record { header = h; known = known; before = [] }) s (at + 1) (r .operands) (r .does h)
 
 -- 'Within a command, 2 comes before any operand is judged': refusal 2 where the rest of a row's operands is missing, else what its command
 -- does. With it comes the place after the command.
-abbrev pub wholeRow : Header → (known : Entry) → List ℕ → (at : ℕ) → Row → Decoded
+abbrev pub wholeRow : Header → (known : Known) → List ℕ → (at : ℕ) → Row → Decoded
 wholeRow h known s at r =
     cond (ltb (length s) (at + 1 + width (r .operands))) (record { command = Refused (SheetEnds (length s)); next = at })
     (record { command = rowAt h known s at r; next = at + 1 + width (r .operands) })

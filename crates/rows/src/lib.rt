@@ -1,14 +1,13 @@
 // The commands of a line sheet, one row for each, and the code that judges their operands: document 01, 'The line sheet' and 'Why a sheet is
-// turned down', and document 02, W1 and W5.
+// turned down', and document 02, W1, W5 and W6.
 ghost use mathlib.Core.Path.{_≡_};
 ghost use Prim.Native.Nat.{_+_, _≤_};
 ghost use lib.ListN.{length};
 ghost use Rattle.sizes.specs.Sizes.{longestSheet, tenthsCommand, levelsCommand, silenceCommand};
 ghost use Rattle.lists.specs.Lent.{before};
-ghost use Rattle.line.specs.Line.{Entry};
 ghost use Rattle.refusals.specs.declared.Refusal.the-variants.{OperandOutOfRange};
 ghost use Rattle.rows.specs.declared.Command.the-variants.{Refused};
-ghost use Rattle.rows.specs.Rows.{tenths, rowAt};
+ghost use Rattle.rows.specs.Rows.{Known, tenths, rowAt};
 ghost use Rattle.rows.specs.Codes.{rowOf, commandBytes, silenceRow};
 use gaps::GAP_UNIT;
 use gaps::Gap;
@@ -20,6 +19,7 @@ use sizes::GAP_COMMAND;
 use sizes::LEVELS_COMMAND;
 use sizes::MOST_POWER;
 use sizes::RATIO_COMMAND;
+use sizes::REST_COMMAND;
 use sizes::SILENCE_COMMAND;
 use sizes::SIZE_COMMAND;
 use sizes::TENTHS_COMMAND;
@@ -34,13 +34,14 @@ pub struct Header {
     pub budget: u64,
 }
 
-// What a command does, or why it is refused: it ends the sheet, makes a new header, describes a tone or adds to one, or silences the
+// What a command does, or why it is refused: it ends the sheet, makes a new header, describes a tone, gives one its rest, or silences the
 // tones of a map. A later command has one of these effects too.
 pub enum Command {
     End,
     Refused(Refusal),
     Head(Header),
     Describe(u16),
+    Rest(u16),
     Silence(u8, u32),
 }
 
@@ -64,7 +65,7 @@ pub fn header_command(s: &[u8], at: usize, code: u8, header: Header) -> Command
     requires { ⌜ code ≤ 3 ⌝ }
     requires { ⌜ at + commandBytes code ≤ length (now s) ⌝ }
     requires { ⌜ length (now s) ≤ longestSheet ⌝ }
-    ensures { λ r. ⌜ ((known : Entry) → r ≡ rowAt header known (before s) at (rowOf code)) ⌝ }
+    ensures { λ r. ⌜ ((known : Known) → r ≡ rowAt header known (before s) at (rowOf code)) ⌝ }
 {
     let gap = header.gap;
     if code == 3 {
@@ -106,7 +107,7 @@ pub fn header_command(s: &[u8], at: usize, code: u8, header: Header) -> Command
 pub fn tenths_command(s: &[u8], at: usize, header: Header) -> Command
     requires { ⌜ at + tenthsCommand ≤ length (now s) ⌝ }
     requires { ⌜ length (now s) ≤ longestSheet ⌝ }
-    ensures { λ r. ⌜ ((known : Entry) → r ≡ rowAt header known (before s) at tenths) ⌝ }
+    ensures { λ r. ⌜ ((known : Known) → r ≡ rowAt header known (before s) at tenths) ⌝ }
 {
     let place = at + 1;
     let tenths = s[place];
@@ -124,7 +125,7 @@ pub fn tenths_command(s: &[u8], at: usize, header: Header) -> Command
 pub fn silence_command(s: &[u8], at: usize, header: Header) -> Command
     requires { ⌜ at + silenceCommand ≤ length (now s) ⌝ }
     requires { ⌜ length (now s) ≤ longestSheet ⌝ }
-    ensures { λ r. ⌜ ((known : Entry) → r ≡ rowAt header known (before s) at silenceRow) ⌝ }
+    ensures { λ r. ⌜ ((known : Known) → r ≡ rowAt header known (before s) at silenceRow) ⌝ }
 {
     let word = s[at + 1];
     if WORDS <= word as usize {
@@ -151,6 +152,7 @@ pub fn bytes_of(code: u8) -> usize
         8 => TENTHS_COMMAND,
         9 => LEVELS_COMMAND,
         10 => RATIO_COMMAND,
+        11 => REST_COMMAND,
         _ => END_COMMAND,
     }
 }

@@ -9,7 +9,7 @@ abbrev pub room : ℕ
 room = 4200
 
 abbrev pub textRoom : ℕ
-textRoom = 131072
+textRoom = 262144
 
 -- what a buffer for a sheet or a table is filled with
 abbrev pub fill : ℕ

@@ -10,7 +10,7 @@ ghost use Rattle.samplebuffers.specs.Buffers.{room, fill, textRoom, Same
 // Room for a sheet, above the 4,096 bytes that a sheet may have.
 pub const ROOM: usize = 4200;
 // Room for the text.
-const TEXT_ROOM: usize = 131072;
+const TEXT_ROOM: usize = 262144;
 // What a buffer is filled with, so that a byte that is written shows.
 const FILL: u8 = 0xa5;
 

@@ -1,4 +1,5 @@
 pub mod Walk
+pub mod Rests
 pub mod Sound
 pub mod Notes
 pub mod Turns

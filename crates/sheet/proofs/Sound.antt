@@ -1,8 +1,10 @@
 -- The line that a sheet means is sound: its numbers are in their ranges, it has an entry for each tone and a map for each word, and no
 -- map names a tone beyond it. Laws:
---   bare-sound, describes, silences    a line is sound after the first three commands, after a tone's, after a silence
+--   bare-sound, stored, silences       a line is sound after the first three commands, after a tone's or a rest's, after a silence
 --   kept                               so is each line that the reading comes to
---   accepted-sound, accepted-short     the line of an accepted sheet is sound, and the sheet is not too long
+--   said-sound                         so is the line that the bytes say
+--   accepted-sound, accepted-fits,     the line of an accepted sheet is sound, its rests keep the budget,
+--   accepted-short                     and the sheet is not too long
 -- Assumes nothing.
 use mathlib.Core.Bool.{Bool, true, false}
 use mathlib.Core.List.{List}
@@ -11,16 +13,16 @@ use Prim.Native.Nat.{ℕ, zero, suc, _+_, _*_, _^_, _≤_, _<_}
 use native.Mathlib.Decide.{decLe}
 use native.Mathlib.Nat.{zero-div}
 use native.Mathlib.Omega.{arith}
-use borrow.Author.Tests.{ltb-false}
+use borrow.Author.Tests.{ltb-false, leb-false}
 use lib.Bits.{bitOr}
-use lib.Dec.{ltb, eqb}
-use lib.ListN.{length, getD, set, length-set, length-replicate}
+use lib.Dec.{ltb, leb}
+use lib.ListN.{length, getD, set, length-set, length-replicate, List·getD-eq-default}
 use lib.Seq.{set-out}
-use Rattle.sizes.specs.Sizes.{mostTones, mostWords, wordTones, wordsOf, longestSheet, mostPower, pairCap, toneCommand, levelsCommand, ratioCommand}
+use Rattle.sizes.specs.Sizes.{mostTones, mostWords, wordTones, wordsOf, longestSheet, mostPower, pairCap, toneCommand, levelsCommand, ratioCommand, restCommand}
 use Rattle.lists.proofs.Tests.{by-test}
 use Rattle.lists.proofs.Stores.{all-same, after-store}
 use Rattle.bigendian.specs.Number.{number}
-use Rattle.bigendian.proofs.Numbers.{byte-from, number-lt, number-from}
+use Rattle.bigendian.proofs.Numbers.{number-one, byte-from, number-lt, number-from}
 use Rattle.silence.specs.Map.{bit, namesBeyond}
 use Rattle.silence.proofs.Maps.{beyond-clear, joined-bit, joined-lt}
 use Rattle.gaps.specs.Gap.{gapUnit, mostGap, mostTenths, PartsInRange, GapInRange}
@@ -31,17 +33,18 @@ use Rattle.line.specs.declared.Numbers.{Numbers}
 use Rattle.line.specs.declared.ReadNumbers.{ReadNumbers}
 use Rattle.line.specs.declared.Kind.the-variants.{Read}
 use Rattle.line.specs.Tone.{kindOf, mostCap, kindCost, NumbersInRange, InRange}
-use Rattle.line.specs.Line.{undescribed, EntryInRange, Line, gapOf, LineInRange}
+use Rattle.line.specs.Line.{Entry, undescribed, described, withRest, EntryInRange, Line, gapOf, entryOf, restTotal, LineInRange}
 use Rattle.line.proofs.Costs.{whole-range}
-use Rattle.refusals.specs.declared.Refusal.the-variants.{SheetTooLong}
+use Rattle.line.proofs.Rested.{rest-taken}
 use Rattle.rows.specs.declared.Header.{Header}
 use Rattle.rows.specs.declared.Command.the-variants.{Describe, Silence}
-use Rattle.places.specs.Places.{numbersAt, levelsAt, ratioAt, kindAt, toneAt}
-use Rattle.rows.specs.Rows.{describing, numbers, levels, ratio, silence}
+use Rattle.places.specs.Places.{addressed, numbersAt, levelsAt, ratioAt, kindAt, toneAt, restAt}
+use Rattle.rows.specs.Rows.{isRestOf, describing, numbers, levels, ratio, rest, silence}
 use Rattle.command.specs.Format.{today}
 use Rattle.command.proofs.Walk.{Each, passes, takes, in-within}
-use Rattle.sheet.specs.Reading.{accepted, refused, bareLine, effect, reading, readingIn}
-use Rattle.sheet.proofs.Walk.{Leads, accepted-by}
+use Rattle.sheet.specs.Reading.{accepted, bareLine, withEntry, effect, SoFar, saidIn, said, reading}
+use Rattle.sheet.proofs.Walk.{Leads, said-by}
+use Rattle.sheet.proofs.Rests.{never, accepted-is}
 
 -- a sheet's elements are bytes
 abbrev pub Bytes : List ℕ → Type 0
@@ -54,19 +57,27 @@ pub record Sound (l : Line) : Type 0 where
   pub maps-small : (word : ℕ) → getD (l .maps) word 0 < 2 ^ 32
   pub maps-within : (word k : ℕ) → l .size ≤ wordTones * word + k → bit (getD (l .maps) word 0) k ≡ 0
 
+-- every tone is in range, past the line's last as one not described
+pub all-in-range : {l : Line} → Sound l → (i : ℕ) → EntryInRange (gapOf l) (entryOf l i)
+all-in-range {l} z i = by (decLe (l .size) i)
+  where
+    by : Dec (l .size ≤ i) → EntryInRange (gapOf l) (entryOf l i)
+    by (yes h) = rw (List·getD-eq-default (l .entries) undescribed {n = i} (omega (arith, z .entries-sized))) tt
+    by (no h) = z .in-range .entries i (omega arith)
+
 -- ---- what the commands do to the line
 
 -- what holds of the new element, and of each old one, holds after a store; past the end nothing is stored
-after-any-store : {A : Type 0} (P : ℕ → A → Type 0) (l : List A) (i : ℕ) (v d : A) (j : ℕ) → (j ≡ i → P j v) → P j (getD l j d) → P j (getD (set l i v) j d)
+pub after-any-store : {A : Type 0} (P : ℕ → A → Type 0) (l : List A) (i : ℕ) (v d : A) (j : ℕ) → (j ≡ i → P j v) → P j (getD l j d) → P j (getD (set l i v) j d)
 after-any-store P l i v d j new old = by (decLe (length l) i)
   where
     by : Dec (length l ≤ i) → P j (getD (set l i v) j d)
     by (yes h) = rw (set-out l i v h) old
     by (no h) = after-store P l i v d j (omega arith) new old
 
-record SizeInRange (n : ℕ) : Type 0 where
-  low : 1 ≤ n
-  high : n ≤ mostTones
+pub record SizeInRange (n : ℕ) : Type 0 where
+  pub low : 1 ≤ n
+  pub high : n ≤ mostTones
 
 bare-sound : (h : Header) → SizeInRange (h .size) → GapInRange (h .gap) → h .budget ≤ mostPower → Sound (bareLine h)
 bare-sound h z g b = record {
@@ -86,20 +97,30 @@ bare-sound h z g b = record {
     no-map : (word : ℕ) → getD (bareLine h .maps) word 0 ≡ 0
     no-map word = all-same {A = ℕ} (wordsOf (h .size)) word 0
 
-describes : (s : List ℕ) (at i : ℕ) (l : Line) → Sound l → InRange (gapOf l) (toneAt s at) → Sound (effect (Describe i) s at l)
-describes s at i l z r = record {
+-- a tone with another entry
+stored : (i : ℕ) (e : Entry) (l : Line) → Sound l → EntryInRange (gapOf l) e → Sound (withEntry l i e)
+stored i e l z r = record {
   in-range = record {
     size-low = z .in-range .size-low;
     size-high = z .in-range .size-high;
     gap = z .in-range .gap;
     budget-high = z .in-range .budget-high;
-    entries = λ j k. after-any-store (λ j. EntryInRange (gapOf l)) (l .entries) i _ undescribed j (λ e. r) (z .in-range .entries j k);
+    entries = λ j k. after-any-store (λ j. EntryInRange (gapOf l)) (l .entries) i _ undescribed j (λ q. r) (z .in-range .entries j k);
   };
   entries-sized = length-set (l .entries) i _ ∙ z .entries-sized;
   maps-sized = z .maps-sized;
   maps-small = z .maps-small;
   maps-within = z .maps-within;
 }
+
+-- a tone has no rest when it is described
+describes : (s : List ℕ) (at i : ℕ) (l : Line) → Sound l → InRange (gapOf l) (toneAt s at) → Sound (effect (Describe i) s at l)
+describes s at i l z r = stored i _ l z (r, record { below-cost = r .cost .low; within-mask = omega arith })
+
+-- and then one that 15 leaves
+rest-in-range : (g rest : ℕ) (e : Entry) → EntryInRange g e → isRestOf g e rest ≡ true → EntryInRange g (withRest rest e)
+rest-in-range g rest undescribed I h = tt
+rest-in-range g rest (described t r) I h = (I .0, rest-taken g t rest h)
 
 silences : (s : List ℕ) (at word map : ℕ) (l : Line) → Sound l → map < 2 ^ 32 → namesBeyond (l .size) word map ≡ false → Sound (effect (Silence word map) s at l)
 silences s at word map l z small e = record {
@@ -142,18 +163,21 @@ read-in-range g n u over c m =
       cost = record { low = cost-low g (n .reading); high = k .1 };
     }
 
-module _ (s : List ℕ) (bytes : Bytes s) where
-  -- What holds after so many of the first three commands.
-  abbrev Along : (at stage : ℕ) → Line → Type 0
-  Along at zero l = Unit {0}
-  Along at (suc zero) l = SizeInRange (l .size)
-  Along at (suc (suc zero)) l = SizeInRange (l .size) × GapInRange (l .gap)
-  Along at (suc (suc (suc n))) l = Sound l
+-- What holds after so many of the first three commands.
+abbrev pub Along : (at stage : ℕ) → SoFar → Type 0
+Along at zero x = Unit {0}
+Along at (suc zero) x = SizeInRange (x .line .size)
+Along at (suc (suc zero)) x = SizeInRange (x .line .size) × GapInRange (x .line .gap)
+Along at (suc (suc (suc n))) x = Sound (x .line)
 
-  module _ (at : ℕ) (l : Line) where
+module _ (s : List ℕ) (bytes : Bytes s) where
+  module _ (at : ℕ) (x : SoFar) where
+    abbrev l : Line
+    l = x .line
+
     -- 04 and 05
     numbers-lead : (n code : ℕ) (single : Bool) → kindAt code s at ≡ kindOf single (numbersAt s at) → Sound l
-        → Leads today s Along Sound at (suc (suc (suc n))) l (describing code (numbers single))
+        → Leads today s Along Sound at (suc (suc (suc n))) x (describing code (numbers single))
     numbers-lead n code single kind z is fits p =
         let noise = in-within (number s (at + 1 + 1) 2) 1 65535 _ _ (p .1 .0) in
         let gain = in-within (number s (at + 1 + 1 + 2) 2) 1 65535 _ _ (p .1 .1 .0) in
@@ -168,7 +192,7 @@ module _ (s : List ℕ) (bytes : Bytes s) where
         (rw (is, kind) (numbers-in-range (gapOf l) single (numbersAt s at) (parts-in-range (l .gap) (z .in-range .gap)) range (omega arith) (omega arith)))
 
     -- 09 and 0A, whose floats were judged with the gap
-    levels-lead : (n : ℕ) → Sound l → Leads today s Along Sound at (suc (suc (suc n))) l levels
+    levels-lead : (n : ℕ) → Sound l → Leads today s Along Sound at (suc (suc (suc n))) x levels
     levels-lead n z is fits p =
         let noise = takes (isUsable (number s (at + 1 + 1) 4)) _ _ (p .1 .0) .0 in
         let gain = takes (isUsable (number s (at + 1 + 1 + 4) 4)) _ _ (p .1 .1 .0) in
@@ -182,7 +206,7 @@ module _ (s : List ℕ) (bytes : Bytes s) where
         describes s at _ l z
         (rw is (range (rw (noise-is, gain-is) (passes _ _ _ (gain .1) .0)) (omega arith) (omega arith)))
 
-    ratio-leads : (n : ℕ) → Sound l → Leads today s Along Sound at (suc (suc (suc n))) l ratio
+    ratio-leads : (n : ℕ) → Sound l → Leads today s Along Sound at (suc (suc (suc n))) x ratio
     ratio-leads n z is fits p =
         let float = takes (isUsable (number s (at + 1 + 1) 4)) _ _ (p .1 .0) in
         let cap = in-within (number s (at + 1 + 1 + 4) 1) 0 pairCap _ _ (p .1 .1 .0) in
@@ -193,38 +217,48 @@ module _ (s : List ℕ) (bytes : Bytes s) where
         describes s at _ l z
         (rw is (read-in-range (gapOf l) (ratioAt s at) (rw float-is (usable-float _ (float .0))) (rw float-is (passes _ _ _ (float .1) .0)) (omega arith) (omega arith)))
 
-    silence-leads : (n : ℕ) → Sound l → Leads today s Along Sound at (suc (suc (suc n))) l (silence mostWords)
+    silence-leads : (n : ℕ) → Sound l → Leads today s Along Sound at (suc (suc (suc n))) x (silence mostWords)
     silence-leads n z is fits p =
         let word = number s (at + 1) 1 in
         let map = number s (at + 1 + 1) 4 in
         silences s at word map l z (number-lt s (at + 1 + 1) 4 (λ i k. bytes (at + 1 + 1 + i))) (passes (namesBeyond (l .size) word map) _ _ (p .1 .0) .0)
 
-  kept : (at stage : ℕ) (l : Line) → Along at stage l → Each (Leads today s Along Sound at stage l) (today .rows stage)
-  kept at zero l a =
+    rest-leads : (n : ℕ) → Sound l → Leads today s Along Sound at (suc (suc (suc n))) x rest
+    rest-leads n z is fits p =
+        let i = number s (at + 1) 1 in
+        let tone : i ≡ addressed s at = number-one s (at + 1) in
+        let value : restAt s at ≡ number s (at + 1 + 1) 4 = number-from s at restCommand 2 4 (at + 1 + 1) (omega arith) (omega arith) (omega arith) (omega arith) in
+        let given = takes (isRestOf (gapOf l) (entryOf l (addressed s at)) (number s (at + 1 + 1) 4)) _ _ (p .1 .0) .0 in
+        stored i _ l z (rest-in-range (gapOf l) (restAt s at) (entryOf l i) (z .in-range .entries i (leb-false _ _ (passes (leb (l .size) i) _ _ (p .0) .0))) (rw (tone, value) given))
+
+  pub kept : (at stage : ℕ) (x : SoFar) → Along at stage x → Each (Leads today s Along Sound at stage x) (today .rows stage)
+  kept at zero x a =
       (λ is fits p. let v = in-within (number s (at + 1) 2) 1 mostTones _ _ (p .0) in record { low = v .0; high = v .1 }, tt)
-  kept at (suc zero) l a = (
+  kept at (suc zero) x a = (
     λ is fits p. let v = in-within (number s (at + 1) 2) gapUnit mostGap _ _ (p .0) in (a, record { low = v .0; high = v .1 }),
     (λ is fits p. (a, in-within (number s (at + 1) 1) 0 mostTenths _ _ (p .0) .1), tt),
   )
-  kept at (suc (suc zero)) l a =
+  kept at (suc (suc zero)) x a =
       (λ is fits p. let v = in-within (number s (at + 1) 8) 0 mostPower _ _ (p .0) in bare-sound _ (a .0) (a .1) (v .1), tt)
-  kept at (suc (suc (suc n))) l z = (
-    numbers-lead at l n 4 false refl z,
+  kept at (suc (suc (suc n))) x z = (
+    numbers-lead at x n 4 false refl z,
     (
-      numbers-lead at l n 5 true refl z,
-      (silence-leads at l n z, (λ is fits p e. z, (levels-lead at l n z, (ratio-leads at l n z, tt)))),
+      numbers-lead at x n 5 true refl z,
+      (silence-leads at x n z, (λ is fits p e. z, (levels-lead at x n z, (ratio-leads at x n z, (rest-leads at x n z, tt))))),
     ),
   )
 
+  pub said-sound : (l : Line) → said s ≡ accepted l → Sound l
+  said-sound = said-by today s Along Sound kept tt
+
   pub accepted-sound : (l : Line) → reading s ≡ accepted l → Sound l
-  accepted-sound = accepted-by today s Along Sound kept tt
+  accepted-sound l e = said-sound l (accepted-is today s l e .says)
+
+pub accepted-fits : (s : List ℕ) (l : Line) → reading s ≡ accepted l → restTotal l ≤ l .budget
+accepted-fits s l e = accepted-is today s l e .fits
 
 pub accepted-short : (s : List ℕ) (l : Line) → reading s ≡ accepted l → length s ≤ longestSheet
-unfolding readingIn
-accepted-short s l =
-    by-test (λ m. m ≡ accepted l → length s ≤ longestSheet) (ltb longestSheet (length s)) never (λ t e. ltb-false longestSheet (length s) t)
-  where
-    never : ltb longestSheet (length s) ≡ true → refused SheetTooLong ≡ accepted l → length s ≤ longestSheet
-    never t e =
-        let z : _≡_ {A = ℕ} 0 1 = cc in
-        omega arith
+unfolding saidIn
+accepted-short s l e =
+    by-test (λ m. m ≡ accepted l → length s ≤ longestSheet) (ltb longestSheet (length s)) (λ t f. never f) (λ t f. ltb-false longestSheet (length s) t)
+    (accepted-is today s l e .says)

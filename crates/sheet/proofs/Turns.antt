@@ -1,81 +1,96 @@
 -- The reading, command by command: what remains of it gives what the whole gives, and the arrays index the line so far. Laws:
 --   starts                             it starts with empty arrays
---   said                               what is known of the command that was decoded
---   on-head, on-describe, on-silence   it goes on after a command
+--   heard                              what is known of the command that was decoded
+--   on-head, on-describe, on-rest,     it goes on after a command
+--   on-silence
 --   on-refused, on-more, on-end        it ends with one
 -- Assumes nothing.
+use mathlib.Core.Bool.{true, cond}
 use mathlib.Core.List.{List}
 use mathlib.Core.Path.{_≡_, refl, ap, sym, _∙_}
 use Prim.Native.Nat.{ℕ, zero, suc, _+_, _-_, _^_, _≤_, _<_}
-use native.Mathlib.Decide.{decLe}
+use native.Mathlib.Decide.{decLe, decLt, ℕ-discrete}
 use native.Mathlib.Nat.{not-suc-le-zero}
 use native.Mathlib.Numerals.{add-one}
 use native.Mathlib.Omega.{arith}
-use borrow.Author.Tests.{le-ltb, lt-ltb}
+use borrow.Author.Tests.{le-ltb, lt-ltb, eq-eqb, ne-eqb}
+use lib.Dec.{ltb, eqb}
 use lib.ListN.{length, getD, set, replicate, length-set, length-replicate}
+use lib.Seq.{getD-set-same, getD-set-other}
 use Rattle.sizes.specs.Sizes.{mostTones, mostWords, wordsOf, longestSheet}
 use Rattle.lists.proofs.Stores.{all-same}
 use Rattle.silence.specs.Map.{joined}
 use Rattle.gaps.specs.declared.Gap.the-variants.{Parts}
-use Rattle.line.specs.Line.{undescribed, Line, entryOf}
+use Rattle.gaps.specs.Gap.{parts}
+use Rattle.line.specs.Line.{Entry, undescribed, EntryInRange, Line, gapOf}
 use Rattle.refusals.specs.declared.Refusal.{Refusal}
 use Rattle.refusals.specs.declared.Refusal.the-variants.{BytesAfterEnd}
 use Rattle.rows.specs.declared.Header.{Header}
 use Rattle.rows.specs.declared.Command.{Command}
-use Rattle.rows.specs.declared.Command.the-variants.{End, Refused, Head, Describe, Silence}
+use Rattle.rows.specs.declared.Command.the-variants.{End, Refused, Head, Describe, Rest, Silence}
 use Rattle.rows.specs.declared.Decoded.{Decoded}
 use Rattle.places.specs.Places.{addressed, entryAt}
+use Rattle.rows.specs.Codes.{knownAt}
 use Rattle.command.specs.Format.{today, commandAt}
 use Rattle.command.proofs.Said.{There, Said, command-said}
 use Rattle.sheet.specs.declared.Read.{Read}
 use Rattle.sheet.specs.declared.Read.the-variants as read
-use Rattle.sheet.specs.Reading.{Meaning, accepted, refused, headerOf, bareLine, emptyLine, effect, Next, stop, go, afterDecoded, commandIn, readOn, readFrom, readingIn, reading}
+use Rattle.sheet.specs.Reading.{Meaning, accepted, refused, headerOf, bareLine, withEntry, SoFar, nothing, soFarAfter, Next, stop, go, knownOf, commandIn, afterDecoded, readOn, readFrom, saidIn, said}
 use Rattle.sheet.specs.Index.{Indexes, answerOf}
-use Rattle.sheet.proofs.Notes.{Empty, notes-head, notes-describe, notes-silence}
+use Rattle.sheet.proofs.Walk.{after-one}
+use Rattle.sheet.proofs.Rests.{never}
+use Rattle.sheet.proofs.Sound.{Bytes, Sound, Along, kept, all-in-range}
+use Rattle.sheet.proofs.Notes.{Empty, notes-head, notes-describe, notes-rest, notes-silence, no-place, has-place, described-takes}
 
 -- a line has an entry for each tone, and a map for each word
 pub record Sized (l : Line) : Type 0 where
   pub entries-sized : length (l .entries) ≡ l .size
   pub maps-sized : length (l .maps) ≡ wordsOf (l .size)
 
--- The reading has come to a place, after so many of the first three commands, with a line so far that the arrays index. What remains
--- gives what the whole gives, unless the sheet is too long: then every command is refused.
-pub record Going (s places maps : List ℕ) (h : Header) (at stage : ℕ) : Type 0 where
+-- The reading has come to a place, after so many of the first three commands, with a line so far that the arrays index, and that is sound. What
+-- remains gives what the whole gives, unless the sheet is too long: then every command is refused.
+pub record Going (s places rests maps : List ℕ) (h : Header) (at stage : ℕ) : Type 0 where
   pub most : ℕ
-  pub line : Line
-  pub sized : Sized line
-  pub header-is : headerOf line ≡ h
-  pub index : Indexes s places maps line
-  pub empty : stage < 3 → Empty places maps
+  pub sofar : SoFar
+  pub sized : Sized (sofar .line)
+  pub sound : Along at stage sofar
+  pub header-is : headerOf (sofar .line) ≡ h
+  pub index : Indexes s places rests maps (sofar .line)
+  pub rested-is : (i : ℕ) → sofar .rested i ≡ ltb 0 (getD rests i 0)
+  pub empty : stage < 3 → Empty places rests maps
   pub low : stage ≤ 3
   pub past : stage ≤ at
   pub inside : at ≤ length s
   pub enough : length s < most + at
-  pub same : length s ≤ longestSheet → readFrom today most s at stage line ≡ reading s
+  pub same : length s ≤ longestSheet → readFrom today most s at stage sofar ≡ said s
 
 -- what reading the commands answers and leaves; where the sheet is refused, nothing is said of the arrays
-abbrev pub ReadingEnds : List ℕ → Read → (places maps : List ℕ) → Type 0
-ReadingEnds s r places maps = (r ≡ answerOf (reading s)) × ((l : Line) → reading s ≡ accepted l → Indexes s places maps l)
+abbrev pub ReadingEnds : List ℕ → Read → (places rests maps : List ℕ) → Type 0
+ReadingEnds s r places rests maps = (r ≡ answerOf (said s)) × ((l : Line) → said s ≡ accepted l → Indexes s places rests maps l)
 
 sized-bare : (h : Header) → Sized (bareLine h)
 sized-bare h = record { entries-sized = length-replicate (h .size) undescribed; maps-sized = length-replicate {A = ℕ} (wordsOf (h .size)) 0 }
 
-empty-start : Empty (replicate mostTones 0) (replicate mostWords 0)
+empty-start : Empty (replicate mostTones 0) (replicate mostTones 0) (replicate mostWords 0)
 empty-start = record {
   places-sized = length-replicate {A = ℕ} mostTones 0;
+  rests-sized = length-replicate {A = ℕ} mostTones 0;
   maps-sized = length-replicate {A = ℕ} mostWords 0;
   no-place = λ i. all-same {A = ℕ} mostTones i 0;
+  no-rest = λ i. all-same {A = ℕ} mostTones i 0;
   no-map = λ word. all-same {A = ℕ} mostWords word 0;
 }
 
-pub starts : (s : List ℕ) → Going s (replicate mostTones 0) (replicate mostWords 0) (record { size = 0; gap = Parts 0; budget = 0 }) 0 0
-unfolding readingIn
+pub starts : (s : List ℕ) → Going s (replicate mostTones 0) (replicate mostTones 0) (replicate mostWords 0) (record { size = 0; gap = Parts 0; budget = 0 }) 0 0
+unfolding saidIn
 starts s = record {
   most = suc (length s);
-  line = emptyLine;
+  sofar = nothing;
   sized = sized-bare _;
+  sound = tt;
   header-is = refl;
   index = notes-head s empty-start _;
+  rested-is = λ i. rw (empty-start .no-rest i);
   empty = λ l. empty-start;
   low = omega arith;
   past = omega arith;
@@ -84,102 +99,138 @@ starts s = record {
   same = λ h. simp (le-ltb _ _ h);
 }
 
-one-command : (most : ℕ) (s : List ℕ) (at stage : ℕ) (l : Line) → 0 < most
-    → readFrom today most s at stage l ≡ readOn (afterDecoded (commandIn today l s at stage) s at stage l) (readFrom today (most - 1) s)
+one-command : (most : ℕ) (s : List ℕ) (at stage : ℕ) (x : SoFar) → 0 < most
+    → readFrom today most s at stage x ≡ readOn (afterDecoded (commandIn today x s at stage) s at stage x) (readFrom today (most - 1) s)
 unfolding readFrom
-one-command zero s at stage l h = absurd (not-suc-le-zero h)
-one-command (suc most) s at stage l h =
+one-command zero s at stage x h = absurd (not-suc-le-zero h)
+one-command (suc most) s at stage x h =
     let e : suc most - 1 ≡ most = omega arith in
-    ap (λ (k : ℕ). readOn (afterDecoded (commandIn today l s at stage) s at stage l) (readFrom today k s)) (sym e)
+    ap (λ (k : ℕ). readOn (afterDecoded (commandIn today x s at stage) s at stage x) (readFrom today k s)) (sym e)
 
-module _ {s places maps : List ℕ} {h : Header} {at stage : ℕ} (g : Going s places maps h at stage)
-    {d : Decoded} (e : d ≡ commandAt today h (entryAt s (getD places (addressed s at) 0)) s at stage) where
-  -- what was decoded by the place of the tone is the command of the line so far
-  matches : d ≡ commandAt today (headerOf (g .line)) (entryOf (g .line) (addressed s at)) s at stage
-  matches = cc (g .index .entry (addressed s at))
-
-  pub said : (c : Command) → d .command ≡ c → Said (headerOf (g .line)) (entryOf (g .line) (addressed s at)) s at stage (d .next) c
-  said c f = rw f at (rw (sym matches) at (command-said (headerOf (g .line)) (entryOf (g .line) (addressed s at)) s at stage))
-
-  -- what the reading comes to after this command is what the whole comes to; where the sheet is too long, both are refusal 1
-  after : (n : Next) → afterDecoded d s at stage (g .line) ≡ n → readOn n (readFrom today (g .most - 1) s) ≡ reading s
-  unfolding readingIn commandAt
-  after n o = rw (sym o) (by (decLe (length s) longestSheet))
+module _ {s places rests maps : List ℕ} {h : Header} {at stage : ℕ} (g : Going s places rests maps h at stage) where
+  -- a tone that is described so far is in range: in a line that is sound, or none is
+  pub known-in-range : (i : ℕ) → EntryInRange (parts (h .gap)) (entryAt s (getD places i 0) (getD rests i 0))
+  known-in-range i = by (decLt stage 3)
     where
-      by : Dec (length s ≤ longestSheet) → readOn (afterDecoded d s at stage (g .line)) (readFrom today (g .most - 1) s) ≡ reading s
-      by (yes short) =
-          let here : d ≡ commandIn today (g .line) s at stage = matches ∙ simp (le-ltb longestSheet (length s) short) in
-          rw here (sym (one-command (g .most) s at stage (g .line) (omega arith)) ∙ g .same short)
+      by : Dec (stage < 3) → EntryInRange (parts (h .gap)) (entryAt s (getD places i 0) (getD rests i 0))
+      by (yes e) = rw (g .empty e .no-place i) tt
       by (no m) =
-          let long : longestSheet < length s = omega arith in
-          simp (matches, lt-ltb longestSheet (length s) long)
+          let three : stage ≡ 3 = omega (arith, g .low) in
+          let sound : Sound (g .sofar .line) = rw three at (g .sound) in
+          let gap : gapOf (g .sofar .line) ≡ parts (h .gap) = ap (λ (k : Header). parts (k .gap)) (g .header-is) in
+          rw (gap, g .index .entry i) at (all-in-range sound i)
 
-  -- the reading ends with this command
-  ends : (m : Meaning) → afterDecoded d s at stage (g .line) ≡ stop m → ((l : Line) → m ≡ accepted l → Indexes s places maps l) → ReadingEnds s (answerOf m) places maps
-  ends m o x = (ap answerOf (after (stop m) o), λ l q. x l (after (stop m) o ∙ q))
+  module _ {d : Decoded} (e : d ≡ commandAt today h (knownAt s (getD places (addressed s at) 0) (getD rests (addressed s at) 0)) s at stage) where
+    -- what was decoded by the places of the tone is the command of what the reading remembers
+    matches : d ≡ commandAt today (headerOf (g .sofar .line)) (knownOf (g .sofar) (addressed s at)) s at stage
+    matches = cc (g .index .entry (addressed s at), g .rested-is (addressed s at))
 
-  -- a refusal indexes no line
-  refuses : (q : Refusal) → afterDecoded d s at stage (g .line) ≡ stop (refused q) → ReadingEnds s (answerOf (refused q)) places maps
-  refuses q o = ends (refused q) o (λ l f. never l f)
-    where
-      never : (l : Line) → refused q ≡ accepted l → Indexes s places maps l
-      never l f =
-          let z : _≡_ {A = ℕ} 0 1 = cc in
-          absurd (omega arith)
+    pub heard : (c : Command) → d .command ≡ c → Said (headerOf (g .sofar .line)) (knownOf (g .sofar) (addressed s at)) s at stage (d .next) c
+    heard c f = rw f at (rw (sym matches) at (command-said (headerOf (g .sofar .line)) (knownOf (g .sofar) (addressed s at)) s at stage))
 
-  pub on-refused : (q : Refusal) → d .command ≡ Refused q → ReadingEnds s (answerOf (refused q)) places maps
-  on-refused q f = refuses q (simp f)
+    -- in a sheet that is not too long
+    here : length s ≤ longestSheet → d ≡ commandIn today (g .sofar) s at stage
+    unfolding commandAt
+    here short = matches ∙ simp (le-ltb longestSheet (length s) short)
 
-  pub on-more : d .command ≡ End → d .next < length s → ReadingEnds s (answerOf (refused (BytesAfterEnd (d .next)))) places maps
-  on-more f l = refuses (BytesAfterEnd (d .next)) (simp (f, lt-ltb _ _ l))
+    -- what the reading comes to after this command is what the whole comes to; where the sheet is too long, both are refusal 1
+    after : (n : Next) → afterDecoded d s at stage (g .sofar) ≡ n → readOn n (readFrom today (g .most - 1) s) ≡ said s
+    unfolding saidIn commandAt
+    after n o = rw (sym o) (by (decLe (length s) longestSheet))
+      where
+        by : Dec (length s ≤ longestSheet) → readOn (afterDecoded d s at stage (g .sofar)) (readFrom today (g .most - 1) s) ≡ said s
+        by (yes short) = rw (here short) (sym (one-command (g .most) s at stage (g .sofar) (omega arith)) ∙ g .same short)
+        by (no m) =
+            let long : longestSheet < length s = omega arith in
+            simp (matches, lt-ltb longestSheet (length s) long)
 
-  pub on-end : d .command ≡ End → length s ≤ d .next → ReadingEnds s (read.Accepted h) places maps
-  on-end f l = rw (sym (g .header-is)) (ends (accepted (g .line)) (simp (f, le-ltb _ _ l)) (λ m q. same m q))
-    where
-      same : (m : Line) → accepted (g .line) ≡ accepted m → Indexes s places maps m
-      same m q =
-          let is : g .line ≡ m = cc in
-          rw is at (g .index)
+    -- the reading ends with this command
+    ends : (m : Meaning) → afterDecoded d s at stage (g .sofar) ≡ stop m → ((l : Line) → m ≡ accepted l → Indexes s places rests maps l)
+        → ReadingEnds s (answerOf m) places rests maps
+    ends m o k = (ap answerOf (after (stop m) o), λ l q. k l (after (stop m) o ∙ q))
 
-  -- it goes on after this command
-  goes-on : {places′ maps′ : List ℕ} {h′ : Header} {stage′ : ℕ} (l : Line) → There (length s) at (d .next) → afterDecoded d s at stage (g .line) ≡ go (d .next) stage′ l
-      → Sized l → headerOf l ≡ h′ → Indexes s places′ maps′ l → (stage′ < 3 → Empty places′ maps′) → stage′ ≤ 3 → stage′ ≤ d .next
-      → Going s places′ maps′ h′ (d .next) stage′
-  goes-on l there o sized is index empty low past = record {
-    most = g .most - 1;
-    line = l;
-    sized = sized;
-    header-is = is;
-    index = index;
-    empty = empty;
-    low = low;
-    past = past;
-    inside = there .inside;
-    enough = omega arith;
-    same = λ short. after (go (d .next) _ l) o;
-  }
+    -- a refusal indexes no line
+    refuses : (q : Refusal) → afterDecoded d s at stage (g .sofar) ≡ stop (refused q) → ReadingEnds s (answerOf (refused q)) places rests maps
+    refuses q o = ends (refused q) o (λ l f. never f)
 
-  pub on-head : (h′ : Header) → d .command ≡ Head h′ → Going s places maps h′ (d .next) (stage + 1)
-  on-head h′ f =
-      let k = said _ f in
-      rw (add-one stage)
-      (goes-on (bareLine h′) (k .there) (simp f) (sized-bare h′) refl (notes-head s (g .empty (k .early)) h′) (λ l. g .empty (omega arith)) (omega arith) (omega arith))
+    pub on-refused : (q : Refusal) → d .command ≡ Refused q → ReadingEnds s (answerOf (refused q)) places rests maps
+    on-refused q f = refuses q (simp f)
 
-  -- the tone that is described is the one that the command addresses
-  pub on-describe : (i tone : ℕ) → tone ≡ addressed s at → tone < mostTones → d .command ≡ Describe i → Going s (set places tone at) maps h (d .next) stage
-  on-describe i tone is small f =
-      let k = said _ f in
-      let same : tone ≡ i = is ∙ sym (k .tone) in
-      rw same
-      (goes-on (effect (Describe i) s at (g .line)) (k .there) (simp f)
-      (record { entries-sized = length-set (g .line .entries) i _ ∙ g .sized .entries-sized; maps-sized = g .sized .maps-sized }) (g .header-is)
-      (notes-describe s (g .index) at i (omega arith) (omega (arith, k .of-line, g .sized .entries-sized)) (omega arith) (record { code = k .code; tone = sym (k .tone); inside = k .whole }))
-      (λ l. absurd (omega arith)) (g .low) (omega arith))
+    pub on-more : d .command ≡ End → d .next < length s → ReadingEnds s (answerOf (refused (BytesAfterEnd (d .next)))) places rests maps
+    on-more f l = refuses (BytesAfterEnd (d .next)) (simp (f, lt-ltb _ _ l))
 
-  pub on-silence : (word map : ℕ) → map < 2 ^ 32 → d .command ≡ Silence word map → Going s places (joined maps word map) h (d .next) stage
-  on-silence word map small f =
-      let k = said _ f in
-      goes-on (effect (Silence word map) s at (g .line)) (k .there) (simp f)
-      (record { entries-sized = g .sized .entries-sized; maps-sized = length-set (g .line .maps) word _ ∙ g .sized .maps-sized }) (g .header-is)
-      (notes-silence s (g .index) at word map (k .word-high) small (omega (arith, g .sized .maps-sized)) (k .of-line))
-      (λ l. absurd (omega arith)) (g .low) (omega arith)
+    pub on-end : d .command ≡ End → length s ≤ d .next → ReadingEnds s (read.Accepted h) places rests maps
+    on-end f l = rw (sym (g .header-is)) (ends (accepted (g .sofar .line)) (simp (f, le-ltb _ _ l)) (λ m q. same m q))
+      where
+        same : (m : Line) → accepted (g .sofar .line) ≡ accepted m → Indexes s places rests maps m
+        same m q =
+            let is : g .sofar .line ≡ m = cc in
+            rw is at (g .index)
+
+    -- it goes on after this command
+    goes-on : Bytes s → {places′ rests′ maps′ : List ℕ} {h′ : Header} {stage′ : ℕ} (y : SoFar) → There (length s) at (d .next) → afterDecoded d s at stage (g .sofar) ≡ go (d .next) stage′ y
+        → Sized (y .line) → headerOf (y .line) ≡ h′ → Indexes s places′ rests′ maps′ (y .line) → ((i : ℕ) → y .rested i ≡ ltb 0 (getD rests′ i 0))
+        → (stage′ < 3 → Empty places′ rests′ maps′) → stage′ ≤ 3 → stage′ ≤ d .next
+        → Going s places′ rests′ maps′ h′ (d .next) stage′
+    goes-on bytes y there o sized is index rested empty low past = record {
+      most = g .most - 1;
+      sofar = y;
+      sized = sized;
+      sound = rw o at (rw (sym (here (there .short))) at (after-one today s Along Sound (kept s bytes) at stage (g .sofar) (g .sound)));
+      header-is = is;
+      index = index;
+      rested-is = rested;
+      empty = empty;
+      low = low;
+      past = past;
+      inside = there .inside;
+      enough = omega arith;
+      same = λ short. after (go (d .next) _ y) o;
+    }
+
+    pub on-head : Bytes s → (h′ : Header) → d .command ≡ Head h′ → Going s places rests maps h′ (d .next) (stage + 1)
+    on-head bytes h′ f =
+        let k = heard _ f in
+        rw (add-one stage)
+        (goes-on bytes (soFarAfter (Head h′) s at (g .sofar)) (k .there) (simp f) (sized-bare h′) refl (notes-head s (g .empty (k .early)) h′) (g .rested-is) (λ l. g .empty (omega arith)) (omega arith) (omega arith))
+
+    -- a line keeps its sizes where a tone's entry is another
+    sized-entry : (i : ℕ) (e : Entry) → Sized (withEntry (g .sofar .line) i e)
+    sized-entry i e = record { entries-sized = length-set (g .sofar .line .entries) i _ ∙ g .sized .entries-sized; maps-sized = g .sized .maps-sized }
+
+    -- the tone that is described is the one that the command addresses
+    pub on-describe : Bytes s → (i tone : ℕ) → tone ≡ addressed s at → tone < mostTones → d .command ≡ Describe i → Going s (set places tone at) rests maps h (d .next) stage
+    on-describe bytes i tone is small f =
+        let k = heard _ f in
+        let same : tone ≡ i = is ∙ sym (k .tone) in
+        let new : getD places i 0 ≡ 0 = no-place (g .index) i (rw (k .tone) (k .new)) in
+        rw same
+        (goes-on bytes (soFarAfter (Describe i) s at (g .sofar)) (k .there) (simp f) (sized-entry i _) (g .header-is)
+        (notes-describe s (g .index) at i (omega arith) (omega (arith, k .of-line, g .sized .entries-sized)) (omega arith) new (record { code = k .code; tone = sym (k .tone); inside = k .whole }))
+        (g .rested-is) (λ l. absurd (omega arith)) (g .low) (omega arith))
+
+    -- and so is the tone that is given its rest
+    pub on-rest : Bytes s → (i tone : ℕ) → tone ≡ addressed s at → tone < mostTones → d .command ≡ Rest i → Going s places (set rests tone at) maps h (d .next) stage
+    on-rest bytes i tone is small f =
+        let k = heard _ f in
+        let same : tone ≡ i = is ∙ sym (k .tone) in
+        let placed : 0 < getD places i 0 = has-place (g .index) i (rw (k .tone) (described-takes (knownOf (g .sofar) (addressed s at)) (k .takes-one))) in
+        rw same
+        (goes-on bytes (soFarAfter (Rest i) s at (g .sofar)) (k .there) (simp f) (sized-entry i _) (g .header-is)
+        (notes-rest s (g .index) at i (omega arith) (omega (arith, k .of-line, g .sized .entries-sized)) (omega arith) placed (record { code = k .code; tone = sym (k .tone); inside = k .whole }))
+        (λ j. rested j i (omega (arith, g .index .rests-sized)) (omega arith)) (λ l. absurd (omega arith)) (g .low) (omega arith))
+      where
+        rested : (j i : ℕ) → i < length rests → 0 < at → cond (eqb j i) true (g .sofar .rested j) ≡ ltb 0 (getD (set rests i at) j 0)
+        rested j i inside late = by (ℕ-discrete j i)
+          where
+            by : Dec (j ≡ i) → cond (eqb j i) true (g .sofar .rested j) ≡ ltb 0 (getD (set rests i at) j 0)
+            by (yes e) = rw (eq-eqb j i e, e, getD-set-same rests i at 0 inside) (sym (lt-ltb 0 at late))
+            by (no m) = rw (ne-eqb j i m, getD-set-other rests i j at 0 m) (g .rested-is j)
+
+    pub on-silence : Bytes s → (word map : ℕ) → map < 2 ^ 32 → d .command ≡ Silence word map → Going s places rests (joined maps word map) h (d .next) stage
+    on-silence bytes word map small f =
+        let k = heard _ f in
+        goes-on bytes (soFarAfter (Silence word map) s at (g .sofar)) (k .there) (simp f)
+        (record { entries-sized = g .sized .entries-sized; maps-sized = length-set (g .sofar .line .maps) word _ ∙ g .sized .maps-sized }) (g .header-is)
+        (notes-silence s (g .index) at word map (k .word-high) small (omega (arith, g .sized .maps-sized)) (k .of-line))
+        (g .rested-is) (λ l. absurd (omega arith)) (g .low) (omega arith)

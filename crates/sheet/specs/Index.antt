@@ -1,11 +1,11 @@
--- The index that reading leaves in lent arrays: where each tone's command stands in the sheet, and the joined silence maps. The sheet
--- itself is the store of what the tones carry.
+-- The index that reading leaves in lent arrays: where each tone's command stands in the sheet, where its rest's does, and the joined silence
+-- maps. The sheet itself is the store of what the tones carry.
 -- Assumes nothing.
 use mathlib.Core.List.{List}
 use mathlib.Core.Path.{_≡_}
 use Prim.Native.Nat.{ℕ, _+_, _≤_, _<_}
 use lib.ListN.{length, getD, replicate}
-use Rattle.sizes.specs.Sizes.{mostTones, mostWords}
+use Rattle.sizes.specs.Sizes.{mostTones, mostWords, restCommand}
 use Rattle.line.specs.Line.{Line, entryOf}
 use Rattle.rows.specs.declared.Header.{Header}
 use Rattle.rows.specs.Codes.{ToneCode, commandBytes}
@@ -20,13 +20,22 @@ pub record ToneStands (s : List ℕ) (i place : ℕ) : Type 0 where
   pub tone : getD s (place + 1) 0 ≡ i
   pub inside : place + commandBytes (getD s place 0) ≤ length s
 
--- The arrays index a line in a sheet. Tone by tone: the entry is the one whose command stands at the tone's place, 0 for none. The maps
--- are the line's; from its last word on they are 0.
-pub record Indexes (s places maps : List ℕ) (l : Line) : Type 0 where
+-- the 0B of tone i stands at a place: its byte, its tone, and all of its bytes
+pub record RestStands (s : List ℕ) (i place : ℕ) : Type 0 where
+  pub code : getD s place 0 ≡ 0x0b
+  pub tone : getD s (place + 1) 0 ≡ i
+  pub inside : place + restCommand ≤ length s
+
+-- The arrays index a line in a sheet. Tone by tone: the entry is the one whose command stands at the tone's place, and whose rest's at its
+-- rest's place, 0 for none; a tone without a place has no rest's. The maps are the line's; from its last word on they are 0.
+pub record Indexes (s places rests maps : List ℕ) (l : Line) : Type 0 where
   pub places-sized : length places ≡ mostTones
+  pub rests-sized : length rests ≡ mostTones
   pub maps-sized : length maps ≡ mostWords
-  pub entry : (i : ℕ) → entryOf l i ≡ entryAt s (getD places i 0)
+  pub entry : (i : ℕ) → entryOf l i ≡ entryAt s (getD places i 0) (getD rests i 0)
   pub stands : (i : ℕ) → 0 < getD places i 0 → ToneStands s i (getD places i 0)
+  pub rest-stands : (i : ℕ) → 0 < getD rests i 0 → RestStands s i (getD rests i 0)
+  pub no-rest : (i : ℕ) → getD places i 0 ≡ 0 → getD rests i 0 ≡ 0
   pub map : (word : ℕ) → getD (l .maps) word 0 ≡ getD maps word 0
 
 -- what reading answers: the line's header, or the refusal
@@ -35,16 +44,17 @@ answerOf (accepted l) = read.Accepted (headerOf l)
 answerOf (refused q) = read.Refused q
 
 -- What reading answers and leaves: the line's header and its index, or the refusal and an empty index.
-abbrev pub Leaves : List ℕ → Read → (places maps : List ℕ) → Meaning → Type 0
-Leaves s r places maps (accepted l) = (r ≡ read.Accepted (headerOf l)) × Indexes s places maps l
-Leaves s r places maps (refused q) = (r ≡ read.Refused q) × (places ≡ replicate mostTones 0) × (maps ≡ replicate mostWords 0)
+abbrev pub Leaves : List ℕ → Read → (places rests maps : List ℕ) → Meaning → Type 0
+Leaves s r places rests maps (accepted l) = (r ≡ read.Accepted (headerOf l)) × Indexes s places rests maps l
+Leaves s r places rests maps (refused q) =
+    (r ≡ read.Refused q) × (places ≡ replicate mostTones 0) × (rests ≡ replicate mostTones 0) × (maps ≡ replicate mostWords 0)
 
-pub record ReadsAs (s : List ℕ) (r : Read) (places maps : List ℕ) (m : Meaning) : Type 0 where
-  pub leaves : Leaves s r places maps m
+pub record ReadsAs (s : List ℕ) (r : Read) (places rests maps : List ℕ) (m : Meaning) : Type 0 where
+  pub leaves : Leaves s r places rests maps m
 
 -- What a call that goes on from an index asks for: that it came from reading this sheet, and was accepted with this header.
-pub record Indexed (s : List ℕ) (h : Header) (places maps : List ℕ) : Type 0 where
+pub record Indexed (s : List ℕ) (h : Header) (places rests maps : List ℕ) : Type 0 where
   pub line : Line
   pub means : reading s ≡ accepted line
   pub header-is : headerOf line ≡ h
-  pub indexes : Indexes s places maps line
+  pub indexes : Indexes s places rests maps line

@@ -1,16 +1,20 @@
 // Reading a line sheet: document 01, 'The line sheet' and 'Why a sheet is turned down'. The bytes are checked once; what is left is an
-// index into them, in lent arrays.
+// index into them, in lent arrays. Document 02, W6: then whether the rests keep the budget.
+ghost use mathlib.Core.List.{List};
 ghost use mathlib.Core.Path.{_≡_};
-ghost use Prim.Native.Nat.{_≤_, _<_};
+ghost use Prim.Native.Nat.{ℕ, _≤_, _<_};
 ghost use lib.Dec.{ltb};
 ghost use lib.ListN.{getD, replicate};
 ghost use Rattle.sizes.specs.Sizes.{mostTones, mostWords};
 ghost use Rattle.lists.specs.Lent.{before, after};
 ghost use Rattle.silence.specs.Map.{count};
 ghost use Rattle.line.specs.Line.{Line};
+ghost use Rattle.refusals.specs.declared.Refusal.{Refusal};
+ghost use Rattle.rows.specs.declared.Header.{Header};
 ghost use Rattle.sheet.specs.Check.{checking, checkNumbers, checkOutcome};
+ghost use Rattle.sheet.specs.declared.Read.the-variants.{Accepted, Refused};
 ghost use Rattle.sheet.specs.Index.{Indexes, ReadsAs, answerOf};
-ghost use Rattle.sheet.specs.Reading.{accepted, reading};
+ghost use Rattle.sheet.specs.Reading.{accepted, headerOf, restsWithin, said, reading};
 use gaps::Gap;
 use refusals::Refusal;
 use rows::Command;
@@ -24,13 +28,19 @@ pub enum Read {
     Refused(Refusal),
 }
 
-// Reads the commands of a sheet one after the other, and notes where each tone's stands and which tones the maps silence. After a
-// refusal the arrays are as far as it was read.
-fn read_commands(s: &[u8], places: &mut [u16; TONES], maps: &mut [u32; WORDS]) -> Read
+// Reads the commands of a sheet one after the other, and notes where each tone's stands, where its rest's does, and which tones the maps
+// silence: what the bytes say. After a refusal the arrays are as far as it was read.
+fn read_commands(
+    s: &[u8],
+    places: &mut [u16; TONES],
+    rests: &mut [u16; TONES],
+    maps: &mut [u32; WORDS],
+) -> Read
     requires { ⌜ now places ≡ replicate mostTones 0 ⌝ }
+    requires { ⌜ now rests ≡ replicate mostTones 0 ⌝ }
     requires { ⌜ now maps ≡ replicate mostWords 0 ⌝ }
-    ensures answer { λ r. ⌜ r ≡ answerOf (reading (before s)) ⌝ }
-    ensures index { λ r. ⌜ ((l : Line) → reading (before s) ≡ accepted l → Indexes (before s) (after places) (after maps) l) ⌝ }
+    ensures answer { λ r. ⌜ r ≡ answerOf (said (before s)) ⌝ }
+    ensures index { λ r. ⌜ ((l : Line) → said (before s) ≡ accepted l → Indexes (before s) (after places) (after rests) (after maps) l) ⌝ }
 {
     let mut header = Header {
         size: 0,
@@ -41,7 +51,7 @@ fn read_commands(s: &[u8], places: &mut [u16; TONES], maps: &mut [u32; WORDS]) -
     let mut at: usize = 0;
     loop {
         let tone = places::addressed(s, at);
-        let decoded = command::decode(s, at, stage, header, places[tone]);
+        let decoded = command::decode(s, at, stage, header, places[tone], rests[tone]);
         let command = decoded.command;
         let next = decoded.next;
         match command {
@@ -57,6 +67,7 @@ fn read_commands(s: &[u8], places: &mut [u16; TONES], maps: &mut [u32; WORDS]) -
                 stage += 1;
             }
             Command::Describe(_) => places[tone] = at as u16,
+            Command::Rest(_) => rests[tone] = at as u16,
             Command::Silence(word, map) => {
                 maps[word as usize] |= map;
             }
@@ -65,18 +76,43 @@ fn read_commands(s: &[u8], places: &mut [u16; TONES], maps: &mut [u32; WORDS]) -
     }
 }
 
+// Refusal 16, of what the bytes say: the rests of a line add up to more than its budget.
+fn judge_rests(s: &[u8], said: Read, rests: &[u16; TONES], maps: &[u32; WORDS]) -> Read
+    requires { ⌜ ((h : Header) → said ≡ Accepted h → h .size ≤ mostTones) ⌝ }
+    ensures line { λ r. ⌜ ((l : Line) (places : List ℕ) → said ≡ Accepted (headerOf l) → Indexes (before s) places (before rests) (before maps) l → r ≡ answerOf (restsWithin (l .budget) l)) ⌝ }
+    ensures refusal { λ r. ⌜ ((q : Refusal) → said ≡ Refused q → r ≡ Refused q) ⌝ }
+{
+    match said {
+        Read::Refused(refusal) => Read::Refused(refusal),
+        Read::Accepted(header) => {
+            if header.budget < rests::rest_total(s, header.size, rests, maps) {
+                return Read::Refused(Refusal::RestsOverBudget);
+            }
+            Read::Accepted(header)
+        }
+    }
+}
+
 // Reads a sheet: its header, or the first refusal that it meets. If it is accepted the arrays then index its line, whatever they held
 // before; if it is refused they are empty.
-pub fn read_sheet(s: &[u8], places: &mut [u16; TONES], maps: &mut [u32; WORDS]) -> Read
-    ensures { λ r. ⌜ ReadsAs (before s) r (after places) (after maps) (reading (before s)) ⌝ }
+pub fn read_sheet(
+    s: &[u8],
+    places: &mut [u16; TONES],
+    rests: &mut [u16; TONES],
+    maps: &mut [u32; WORDS],
+) -> Read
+    ensures { λ r. ⌜ ReadsAs (before s) r (after places) (after rests) (after maps) (reading (before s)) ⌝ }
 {
     *places = [0; TONES];
+    *rests = [0; TONES];
     *maps = [0; WORDS];
-    let read = read_commands(s, places, maps);
+    let said = read_commands(s, places, rests, maps);
+    let read = judge_rests(s, said, rests, maps);
     match read {
         Read::Accepted(header) => Read::Accepted(header),
         Read::Refused(refusal) => {
             *places = [0; TONES];
+            *rests = [0; TONES];
             *maps = [0; WORDS];
             Read::Refused(refusal)
         }
@@ -111,8 +147,9 @@ pub fn check(s: &[u8]) -> Checked
     ensures numbers { λ r. ⌜ checkNumbers r ≡ checkOutcome (reading (before s)) ⌝ }
 {
     let mut places: [u16; TONES] = [0; TONES];
+    let mut rests: [u16; TONES] = [0; TONES];
     let mut maps: [u32; WORDS] = [0; WORDS];
-    let read = read_sheet(s, &mut places, &mut maps);
+    let read = read_sheet(s, &mut places, &mut rests, &mut maps);
     match read {
         Read::Refused(refusal) => Checked::Refused(refusal),
         Read::Accepted(header) => {

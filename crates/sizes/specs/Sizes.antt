@@ -67,6 +67,10 @@ ratioCommand = 15
 abbrev pub silenceCommand : ℕ
 silenceCommand = 6
 
+-- W6: 'Command 0B gives tone and rest, 4 bytes'
+abbrev pub restCommand : ℕ
+restCommand = 6
+
 abbrev pub endCommand : ℕ
 endCommand = 1
 

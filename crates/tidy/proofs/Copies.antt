@@ -1,28 +1,28 @@
 -- What is copied from a sheet, and the maps that are written, are the parts of the tidy form of the line that the sheet's index stands for.
 -- Assumes nothing.
 use mathlib.Core.List.{List, [], _∷_, _++_, append-assoc, append-nil}
-use mathlib.Core.Path.{_≡_, refl, sym, ap, _∙_}
+use mathlib.Core.Path.{_≡_, refl, sym, _∙_}
 use Prim.Native.Nat.{ℕ, zero, suc, _+_, _*_, _/_, _%_, _≤_, _<_}
 use native.Mathlib.Decide.{le-ind}
 use native.Mathlib.Nat.{add-zero, add-assoc}
 use native.Mathlib.Omega.{arith}
 use lib.ListN.{length, getD, length-append, List·getD-eq-default}
-use Rattle.sizes.specs.Sizes.{mostWords, wordsOf}
+use Rattle.sizes.specs.Sizes.{mostWords, wordsOf, restCommand}
 use Rattle.bigendian.specs.Number.{number, bytes}
-use Rattle.bigendian.proofs.Numbers.{number-one}
+use Rattle.bigendian.proofs.Numbers.{number-one, number-from}
 use Rattle.bigendian.proofs.Stores.{Growing}
 use Rattle.line.specs.Tone.{KindInRange}
-use Rattle.line.specs.Line.{described, Line, gapOf, EntryInRange, LineInRange}
-use Rattle.rows.specs.Rows.{Operand, width}
+use Rattle.line.specs.Line.{Line, gapOf, EntryInRange, LineInRange}
+use Rattle.rows.specs.Rows.{Operand, Row, width, rest}
 use Rattle.rows.specs.Codes.{commandBytes}
-use Rattle.places.specs.Places.{toneAt, entryAt}
-use Rattle.sheet.specs.Index.{ToneStands, Indexes}
+use Rattle.places.specs.Places.{toneAt, restAt, restFrom, entryAt}
+use Rattle.sheet.specs.Index.{ToneStands, RestStands, Indexes}
 use Rattle.sheet.proofs.Sound.{Bytes, Sound}
-use Rattle.tidyform.specs.Tidy.{operandBytes, kindRow, kindValues, entryBytes, toneBytes, mapBytes}
+use Rattle.tidyform.specs.Tidy.{operandBytes, written, kindRow, kindValues, restBytes, entryBytes, toneBytes, mapBytes}
 use Rattle.tidyform.proofs.Parts.{no-word}
 use Rattle.tidyform.proofs.Written.{Stand}
 use Rattle.tidyform.proofs.Tones.{tone-read}
-use Rattle.tidy.specs.Copies.{part, toneCopy, copies}
+use Rattle.tidy.specs.Copies.{part, restCopy, entryCopy, copies}
 
 -- ---- parts of a sheet
 
@@ -62,7 +62,7 @@ bytes-number s b at (suc w) =
     let low : (n * 256 + x) % 256 ≡ x = omega arith in
     rw (high, low, bytes-number s b at w)
 
--- ---- the command of a tone
+-- ---- the commands of a tone
 
 module _ (s : List ℕ) (b : Bytes s) where
   -- operands that stand there are written with the bytes that they were read from
@@ -73,23 +73,43 @@ module _ (s : List ℕ) (b : Bytes s) where
   operands-back at (o ∷ os) (v ∷ vs) st =
       rw (sym (st .0), bytes-number s b at (o .width), operands-back (at + o .width) os vs (st .1)) (parts s at (o .width) (at + o .width) (width os) (width (o ∷ os)) refl refl)
 
-  tone-copy : (i at : ℕ) → ToneStands s i at → KindInRange (toneAt s at .kind) → entryBytes i (described (toneAt s at)) ≡ part s at (commandBytes (getD s at 0))
+  -- and so is a command whose byte stands before them
+  command-back : (at : ℕ) (r : Row) (vs : List ℕ) → getD s at 0 ≡ r .code → Stand s (at + 1) (r .operands) vs
+      → written r vs ≡ part s at (1 + width (r .operands))
+  command-back at r vs code st =
+      rw (sym code, operands-back (at + 1) (r .operands) vs st)
+      (rw (part-one s at) at (parts s at 1 (at + 1) (width (r .operands)) (1 + width (r .operands)) refl refl))
+
+  tone-copy : (i at : ℕ) → ToneStands s i at → (let k = toneAt s at .kind in
+      KindInRange k → written (kindRow k) (i ∷ kindValues k) ≡ part s at (commandBytes (getD s at 0)))
   tone-copy i at h I =
       let c = tone-read s at i b h I in
       let k = toneAt s at .kind in
-      rw (c .bytes, sym (c .code), operands-back (at + 1) (kindRow k .operands) (i ∷ kindValues k) (c .operands))
-      (rw (part-one s at) at (parts s at 1 (at + 1) (width (kindRow k .operands)) (1 + width (kindRow k .operands)) refl refl))
+      rw (c .bytes) (command-back at (kindRow k) (i ∷ kindValues k) (c .code) (c .operands))
+
+  rest-copy : (i at : ℕ) → RestStands s i at → written rest (i ∷ restAt s at ∷ []) ≡ part s at restCommand
+  rest-copy i at h =
+      let value = sym (number-from s at restCommand 2 4 (at + 1 + 1) (h .inside) (omega arith) (omega arith) (omega arith)) in
+      command-back at rest (i ∷ restAt s at ∷ []) (h .code) (number-one s (at + 1) ∙ h .tone, (value, tt))
+
+  -- none is written where the rest is 0
+  rest-copied : (i place : ℕ) → (0 < place → RestStands s i place) → restBytes i (restFrom s place) ≡ restCopy s place
+  rest-copied i zero h = refl
+  rest-copied i (suc p) h = rw (rest-copy i (suc p) (h (omega arith)))
 
   -- the tones' commands are those of the line that is indexed
-  pub copies-are : {places maps : List ℕ} {l : Line} → Indexes s places maps l → LineInRange l → (n : ℕ) → n ≤ l .size → toneBytes n (l .entries) ≡ copies n s places
+  pub copies-are : {places rests maps : List ℕ} {l : Line} → Indexes s places rests maps l → LineInRange l → (n : ℕ) → n ≤ l .size
+      → toneBytes n (l .entries) ≡ copies n s places rests
   unfolding toneBytes copies
   copies-are x I zero h = refl
-  copies-are {places} {l = l} x I (suc n) h =
-      rw (copies-are x I n (omega arith), x .entry n, entry-copy (getD places n 0) (x .stands n) (rw (x .entry n) at (I .entries n h)))
+  copies-are {places} {rests} {l = l} x I (suc n) h =
+      let R = rw (x .entry n) at (I .entries n h) in
+      rw (copies-are x I n (omega arith), x .entry n, entry-copy (getD places n 0) (getD rests n 0) (x .stands n) (x .rest-stands n) (x .no-rest n) R)
     where
-      entry-copy : (place : ℕ) → (0 < place → ToneStands s n place) → EntryInRange (gapOf l) (entryAt s place) → entryBytes n (entryAt s place) ≡ toneCopy s place
-      entry-copy zero h R = refl
-      entry-copy (suc p) h R = tone-copy n (suc p) (h (omega arith)) (R .kind)
+      entry-copy : (place rested : ℕ) → (0 < place → ToneStands s n place) → (0 < rested → RestStands s n rested) → (place ≡ 0 → rested ≡ 0)
+          → EntryInRange (gapOf l) (entryAt s place rested) → entryBytes n (entryAt s place rested) ≡ entryCopy s place rested
+      entry-copy zero rested h g none R = rw (none refl)
+      entry-copy (suc p) rested h g none R = rw (← tone-copy n (suc p) (h (omega arith)) (R .0 .kind), rest-copied n rested g)
 
 -- ---- the maps
 
@@ -104,7 +124,8 @@ unfolding mapBytes
 no-more maps n m h zeros =
     le-ind (λ (k : ℕ). mapBytes k maps ≡ mapBytes n maps) refl (λ k l e. rw (no-word k (zeros k l), append-nil (mapBytes k maps)) e) m h
 
-pub maps-are : {s places maps : List ℕ} (l : Line) → Sound l → Indexes s places maps l → mapBytes (wordsOf (l .size)) (l .maps) ≡ mapBytes mostWords maps
+pub maps-are : {s places rests maps : List ℕ} (l : Line) → Sound l → Indexes s places rests maps l
+    → mapBytes (wordsOf (l .size)) (l .maps) ≡ mapBytes mostWords maps
 maps-are {maps = maps} l S x =
     sym (no-more (l .maps) (wordsOf (l .size)) mostWords (omega (arith, S .in-range .size-high)) (λ word h. List·getD-eq-default (l .maps) 0 (omega (arith, S .maps-sized))))
     ∙ same-maps (l .maps) maps (x .map) mostWords

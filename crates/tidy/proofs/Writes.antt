@@ -1,31 +1,36 @@
 -- Runs of stores, one after the other: what the tidy form leaves in a lent buffer.
 -- Assumes nothing.
+use mathlib.Core.Bool.{Bool, true, false, cond}
 use mathlib.Core.Path.{_≡_, refl, sym, ap, _∙_}
 use mathlib.Core.List.{List, [], _∷_, _++_, append-assoc}
 use Prim.Native.Nat.{ℕ, zero, suc, _+_, _≤_, _<_}
+use native.Mathlib.Decide.{ℕ-discrete}
 use native.Mathlib.Numerals.{add-one}
 use native.Mathlib.Omega.{arith}
-use lib.ListN.{length, getD, set}
+use borrow.Author.Tests.{eq-eqb, ne-eqb}
+use lib.Dec.{eqb}
+use lib.ListN.{length, getD, set, length-append}
 use lib.Seq.{sets}
-use Rattle.sizes.specs.Sizes.{wordsOf, sizeCommand, silenceCommand}
+use Rattle.sizes.specs.Sizes.{wordsOf, sizeCommand, restCommand, silenceCommand}
 use Rattle.bigendian.specs.Number.{bytes}
 use Rattle.bigendian.proofs.Numbers.{length-bytes, bytes-one}
 use Rattle.bigendian.proofs.Stores.{Growing, sets-append}
 use Rattle.gaps.specs.declared.Gap.the-variants.{Parts, Tenths}
 use Rattle.line.specs.Line.{Line}
+use Rattle.places.specs.Places.{restFrom}
 use Rattle.rows.specs.declared.Header.{Header}
 use Rattle.rows.specs.Rows.{budget, end}
 use Rattle.rows.specs.Codes.{commandBytes, sizeRow, silenceRow}
 use Rattle.sheet.specs.Reading.{headerOf}
 use Rattle.tidyform.specs.Tidy.{written, toneBytes, mapBytes, gapBytes, headBytes, tidy}
-use Rattle.tidy.specs.Copies.{part, Inside, toneCopy, copies}
+use Rattle.tidy.specs.Copies.{part, Inside, RestInside, toneCopy, restCopy, entryCopy, copies}
 use Rattle.tidy.proofs.Copies.{length-part}
 
 -- The copied tones.
 
-pub copies-grow : (s places : List ℕ) → Growing (λ n. copies n s places) (λ n. toneCopy s (getD places n 0))
+pub copies-grow : (s places rests : List ℕ) → Growing (λ n. copies n s places rests) (λ n. entryCopy s (getD places n 0) (getD rests n 0))
 unfolding copies
-copies-grow s places = record { none = refl; next = λ n. refl }
+copies-grow s places rests = record { none = refl; next = λ n. refl }
 
 pub length-copy : (s : List ℕ) (place : ℕ) → 0 < place → length (toneCopy s place) ≡ commandBytes (getD s place 0)
 length-copy s zero h = absurd (omega arith)
@@ -34,16 +39,50 @@ length-copy s (suc p) h = length-part s (suc p) (commandBytes (getD s (suc p) 0)
 pub length-no-copy : (s : List ℕ) {place : ℕ} → place ≡ 0 → length (toneCopy s place) ≡ 0
 length-no-copy s e = rw e
 
--- what is copied is a part of the sheet, that of no tone too
+pub length-rest : (s : List ℕ) (place : ℕ) → (restFrom s place ≡ 0 → ⊥) → length (restCopy s place) ≡ restCommand
+length-rest s place n = rw (ne-eqb (restFrom s place) 0 n) (length-part s place restCommand)
+
+pub length-no-rest : (s : List ℕ) (place : ℕ) → restFrom s place ≡ 0 → length (restCopy s place) ≡ 0
+length-no-rest s place e = rw (eq-eqb (restFrom s place) 0 e)
+
+-- what is copied is a part of the sheet, that of no tone and of no rest too
 pub copy-is : (s : List ℕ) (place : ℕ) → toneCopy s place ≡ part s place (length (toneCopy s place))
 unfolding part
 copy-is s zero = refl
 copy-is s (suc p) = ap (part s (suc p)) (sym (length-part s (suc p) (commandBytes (getD s (suc p) 0))))
 
+pub rest-is : (s : List ℕ) (place : ℕ) → restCopy s place ≡ part s place (length (restCopy s place))
+unfolding part
+rest-is s place = by (eqb (restFrom s place) 0)
+  where
+    by : (none : Bool) → (let copy = cond none [] (part s place restCommand) in copy ≡ part s place (length copy))
+    by true = refl
+    by false = ap (part s place) (sym (length-part s place restCommand))
+
 -- and is inside it
 pub copy-inside : (s : List ℕ) (place : ℕ) → Inside s place → place + length (toneCopy s place) ≤ length s
 copy-inside s zero I = omega arith
 copy-inside s (suc p) I = omega (arith, I .whole (omega arith), length-copy s (suc p) (omega arith))
+
+pub rest-inside : (s : List ℕ) (place : ℕ) → RestInside s place → place + length (restCopy s place) ≤ length s
+rest-inside s zero I = omega arith
+rest-inside s (suc p) I = by (ℕ-discrete (restFrom s (suc p)) 0)
+  where
+    by : Dec (restFrom s (suc p) ≡ 0) → suc p + length (restCopy s (suc p)) ≤ length s
+    by (yes e) = omega (arith, I .whole (omega arith), length-no-rest s (suc p) e)
+    by (no n) = omega (arith, I .whole (omega arith), length-rest s (suc p) n)
+
+-- a tone's command and its rest's
+pub length-entry : (s : List ℕ) (place rest : ℕ) → length (entryCopy s place rest) ≡ length (toneCopy s place) + length (restCopy s rest)
+length-entry s place rest = length-append (toneCopy s place) (restCopy s rest)
+
+-- the one copied to a place, the other straight after it
+pub entry-stores : (out : List ℕ) (at : ℕ) (s : List ℕ) (place rest : ℕ) → sets out at (entryCopy s place rest)
+    ≡ (let w = length (toneCopy s place) in sets (sets out at (part s place w)) (at + w) (part s rest (length (restCopy s rest))))
+entry-stores out at s place rest =
+    sets-append out at (toneCopy s place) (restCopy s rest)
+    ∙ ap (λ (xs : List ℕ). sets (sets out at xs) (at + length (toneCopy s place)) (restCopy s rest)) (copy-is s place)
+    ∙ ap (sets (sets out at (part s place (length (toneCopy s place)))) (at + length (toneCopy s place))) (rest-is s rest)
 
 -- The commands that are written number by number, as the stores that write them.
 

@@ -1,8 +1,12 @@
--- The described tones of the tidy form as they are written: each command copied from its place in the sheet.
+-- The described tones of the tidy form as they are written: each command, and each rest's, copied from its place in the sheet.
 -- Assumes nothing.
+use mathlib.Core.Bool.{cond}
 use mathlib.Core.List.{List, [], _∷_, _++_}
 use Prim.Native.Nat.{ℕ, zero, suc, _+_, _≤_, _<_}
+use lib.Dec.{eqb}
 use lib.ListN.{length, getD}
+use Rattle.sizes.specs.Sizes.{restCommand}
+use Rattle.places.specs.Places.{restFrom}
 use Rattle.rows.specs.Codes.{commandBytes}
 
 -- the bytes of a sheet from a place on
@@ -19,6 +23,17 @@ abbrev pub toneCopy : List ℕ → (place : ℕ) → List ℕ
 toneCopy s zero = []
 toneCopy s (suc p) = part s (suc p) (commandBytes (getD s (suc p) 0))
 
-unfoldable pub copies : (count : ℕ) → (s places : List ℕ) → List ℕ
-copies zero s places = []
-copies (suc n) s places = copies n s places ++ toneCopy s (getD places n 0)
+-- the same of a rest's command, none where the rest is 0
+pub record RestInside (s : List ℕ) (place : ℕ) : Type 0 where
+  pub whole : 0 < place → place + restCommand ≤ length s
+
+abbrev pub restCopy : List ℕ → (place : ℕ) → List ℕ
+restCopy s place = cond (eqb (restFrom s place) 0) [] (part s place restCommand)
+
+-- the commands of a tone
+abbrev pub entryCopy : List ℕ → (place rest : ℕ) → List ℕ
+entryCopy s place rest = toneCopy s place ++ restCopy s rest
+
+unfoldable pub copies : (count : ℕ) → (s places rests : List ℕ) → List ℕ
+copies zero s places rests = []
+copies (suc n) s places rests = copies n s places rests ++ entryCopy s (getD places n 0) (getD rests n 0)

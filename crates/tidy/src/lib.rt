@@ -1,22 +1,23 @@
-// Tidying a sheet: document 01, 'The line sheet', and document 02, W1 and W5.
+// Tidying a sheet: document 01, 'The line sheet', and document 02, W1, W5 and W6.
 mod writer;
 
 ghost use mathlib.Core.Path.{_≡_};
-ghost use Prim.Native.Nat.{ℕ, _*_, _≤_};
+ghost use Prim.Native.Nat.{ℕ, _+_, _*_, _≤_};
 ghost use lib.ListN.{length, getD};
-ghost use Rattle.sizes.specs.Sizes.{mostTones, mostWords, gapCommand, levelsCommand, silenceCommand};
+ghost use Rattle.sizes.specs.Sizes.{mostTones, mostWords, gapCommand, levelsCommand, restCommand, silenceCommand};
 ghost use Rattle.lists.specs.Lent.{before, after};
 ghost use Rattle.refusals.specs.Writing.{afterWriting};
 ghost use Rattle.sheet.specs.Reading.{reading};
 ghost use Rattle.tidyform.specs.Tidy.{mapBytes, gapBytes};
 ghost use Rattle.tidy.specs.Tidying.{tidying, tidyAnswer, tidyNumbers, tidyOutcome};
-ghost use Rattle.tidy.specs.Copies.{Inside, toneCopy, copies};
+ghost use Rattle.tidy.specs.Copies.{Inside, RestInside, toneCopy, restCopy, copies};
 use gaps::Gap;
 use refusals::Refusal;
 use sheet::Read;
 use sizes::BUDGET_COMMAND;
 use sizes::END_COMMAND;
 use sizes::GAP_COMMAND;
+use sizes::REST_COMMAND;
 use sizes::SILENCE_COMMAND;
 use sizes::SIZE_COMMAND;
 use sizes::TENTHS_COMMAND;
@@ -47,16 +48,28 @@ pub(crate) fn tone_bytes(s: &[u8], place: u16) -> usize
     rows::bytes_of(s[place as usize])
 }
 
-// How many bytes the described tones take.
-fn tones_bytes(s: &[u8], size: u16, places: &[u16; TONES]) -> usize
+// How many bytes the command of the rest that stands at a place of the sheet takes, if one does that is not 0.
+pub(crate) fn rest_bytes(s: &[u8], rested: u16) -> usize
+    requires { ⌜ RestInside (now s) rested ⌝ }
+    ensures { λ r. ⌜ (r ≡ length (restCopy (before s) rested)) × (r ≤ restCommand) ⌝ }
+{
+    if places::rest_at(s, rested) == 0 {
+        return 0;
+    }
+    REST_COMMAND
+}
+
+// How many bytes the described tones take, with their rests.
+fn tones_bytes(s: &[u8], size: u16, places: &[u16; TONES], rests: &[u16; TONES]) -> usize
     requires { ⌜ size ≤ mostTones ⌝ }
     requires { ⌜ ((i : ℕ) → Inside (now s) (getD (now places) i 0)) ⌝ }
-    ensures { λ r. ⌜ (r ≡ length (copies size (before s) (before places))) × (r ≤ levelsCommand * mostTones) ⌝ }
+    requires { ⌜ ((i : ℕ) → RestInside (now s) (getD (now rests) i 0)) ⌝ }
+    ensures { λ r. ⌜ (r ≡ length (copies size (before s) (before places) (before rests))) × (r ≤ (levelsCommand + restCommand) * mostTones) ⌝ }
 {
     let mut bytes: usize = 0;
     let mut i: u16 = 0;
     while i < size {
-        bytes += tone_bytes(s, places[i as usize]);
+        bytes += tone_bytes(s, places[i as usize]) + rest_bytes(s, rests[i as usize]);
         i += 1;
     }
     bytes
@@ -90,20 +103,21 @@ pub fn tidy(s: &[u8], out: &mut [u8]) -> Tidied
     ensures bytes { λ r. ⌜ after out ≡ afterWriting (tidying (reading (before s)) (length (before out))) (before out) ⌝ }
 {
     let mut places: [u16; TONES] = [0; TONES];
+    let mut rests: [u16; TONES] = [0; TONES];
     let mut maps: [u32; WORDS] = [0; WORDS];
-    let read = sheet::read_sheet(s, &mut places, &mut maps);
+    let read = sheet::read_sheet(s, &mut places, &mut rests, &mut maps);
     match read {
         Read::Refused(refusal) => Tidied::Refused(refusal),
         Read::Accepted(header) => {
             let gap = header.gap;
             let bytes = OTHER_BYTES
                 + gap_bytes(gap)
-                + tones_bytes(s, header.size, &places)
+                + tones_bytes(s, header.size, &places, &rests)
                 + words_bytes(&maps);
             if out.len() < bytes {
                 return Tidied::Refused(Refusal::DestinationTooSmall);
             }
-            writer::put_line(out, s, header, &places, &maps);
+            writer::put_line(out, s, header, &places, &rests, &maps);
             Tidied::Length(bytes)
         }
     }

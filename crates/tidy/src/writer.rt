@@ -1,4 +1,4 @@
-// The tidy form of a line, written into a lent buffer: document 01, 'The line sheet', and document 02, W1 and W5.
+// The tidy form of a line, written into a lent buffer: document 01, 'The line sheet', and document 02, W1, W5 and W6.
 ghost use mathlib.Core.Path.{_≡_};
 ghost use Prim.Native.Nat.{ℕ, _+_, _≤_};
 ghost use lib.ListN.{length, getD};
@@ -9,7 +9,7 @@ ghost use Rattle.line.specs.Line.{Line};
 ghost use Rattle.sheet.specs.Reading.{accepted, reading};
 ghost use Rattle.sheet.specs.Index.{Indexed};
 ghost use Rattle.tidyform.specs.Tidy.{wordBytes, mapBytes, gapBytes, headBytes, tidy};
-ghost use Rattle.tidy.specs.Copies.{part, Inside, toneCopy, copies};
+ghost use Rattle.tidy.specs.Copies.{part, Inside, RestInside, entryCopy, copies};
 use gaps::Gap;
 use rows::Header;
 use sizes::BUDGET_COMMAND;
@@ -33,30 +33,42 @@ fn copy(s: &[u8], from: usize, width: usize, out: &mut [u8], at: usize)
     }
 }
 
-// The command of the tone that stands at a place of the sheet, if one does. Answers the place after it in the buffer.
-fn put_tone(s: &[u8], place: u16, out: &mut [u8], at: usize) -> usize
+// The command of the tone that stands at a place of the sheet, if one does, and straight after it that of its rest, if it has one that is not 0.
+// Answers the place after them in the buffer.
+fn put_tone(s: &[u8], place: u16, rested: u16, out: &mut [u8], at: usize) -> usize
     requires { ⌜ Inside (now s) place ⌝ }
-    requires { ⌜ at + length (toneCopy (now s) place) ≤ length (now out) ⌝ }
-    ensures place { λ r. ⌜ r ≡ at + length (toneCopy (before s) place) ⌝ }
-    ensures bytes { λ r. ⌜ after out ≡ sets (before out) at (toneCopy (before s) place) ⌝ }
+    requires { ⌜ RestInside (now s) rested ⌝ }
+    requires { ⌜ at + length (entryCopy (now s) place rested) ≤ length (now out) ⌝ }
+    ensures place { λ r. ⌜ r ≡ at + length (entryCopy (before s) place rested) ⌝ }
+    ensures bytes { λ r. ⌜ after out ≡ sets (before out) at (entryCopy (before s) place rested) ⌝ }
 {
     let bytes = crate::tone_bytes(s, place);
     copy(s, place as usize, bytes, out, at);
-    at + bytes
+    let rest = crate::rest_bytes(s, rested);
+    copy(s, rested as usize, rest, out, at + bytes);
+    at + bytes + rest
 }
 
-// The described tones in rising number, from a place on. Answers the place after them.
-fn put_tones(s: &[u8], size: u16, places: &[u16; TONES], out: &mut [u8], at: usize) -> usize
+// The described tones in rising number, each with its rest, from a place on. Answers the place after them.
+fn put_tones(
+    s: &[u8],
+    size: u16,
+    places: &[u16; TONES],
+    rests: &[u16; TONES],
+    out: &mut [u8],
+    at: usize,
+) -> usize
     requires { ⌜ size ≤ mostTones ⌝ }
     requires { ⌜ ((i : ℕ) → Inside (now s) (getD (now places) i 0)) ⌝ }
-    requires { ⌜ at + length (copies size (now s) (now places)) ≤ length (now out) ⌝ }
-    ensures place { λ r. ⌜ r ≡ at + length (copies size (before s) (before places)) ⌝ }
-    ensures bytes { λ r. ⌜ after out ≡ sets (before out) at (copies size (before s) (before places)) ⌝ }
+    requires { ⌜ ((i : ℕ) → RestInside (now s) (getD (now rests) i 0)) ⌝ }
+    requires { ⌜ at + length (copies size (now s) (now places) (now rests)) ≤ length (now out) ⌝ }
+    ensures place { λ r. ⌜ r ≡ at + length (copies size (before s) (before places) (before rests)) ⌝ }
+    ensures bytes { λ r. ⌜ after out ≡ sets (before out) at (copies size (before s) (before places) (before rests)) ⌝ }
 {
     let mut place = at;
     let mut i: usize = 0;
     while i < size as usize {
-        place = put_tone(s, places[i], out, place);
+        place = put_tone(s, places[i], rests[i], out, place);
         i += 1;
     }
     place
@@ -133,14 +145,15 @@ pub(crate) fn put_line(
     s: &[u8],
     header: Header,
     places: &[u16; TONES],
+    rests: &[u16; TONES],
     maps: &[u32; WORDS],
 )
-    requires { ⌜ Indexed (now s) header (now places) (now maps) ⌝ }
+    requires { ⌜ Indexed (now s) header (now places) (now rests) (now maps) ⌝ }
     requires { ⌜ ((l : Line) → reading (now s) ≡ accepted l → length (tidy l) ≤ length (now out)) ⌝ }
     ensures { λ r. ⌜ ((l : Line) → reading (before s) ≡ accepted l → after out ≡ sets (before out) 0 (tidy l)) ⌝ }
 {
     let header_end = put_header(out, header);
-    let tones_end = put_tones(s, header.size, places, out, header_end);
+    let tones_end = put_tones(s, header.size, places, rests, out, header_end);
     let words_end = put_words(out, tones_end, maps);
     out[words_end] = 7;
 }

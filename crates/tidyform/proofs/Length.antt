@@ -8,19 +8,18 @@ use native.Mathlib.Omega.{arith}
 use lib.Bits.{bitOr}
 use lib.ListN.{length, getD, set, length-append}
 use lib.Seq.{getD-set-same, getD-set-other, set-out}
-use Rattle.sizes.specs.Sizes.{wordsOf, sizeCommand, gapCommand, tenthsCommand, budgetCommand, silenceCommand, endCommand}
+use Rattle.sizes.specs.Sizes.{wordsOf, sizeCommand, gapCommand, tenthsCommand, budgetCommand, silenceCommand, restCommand, endCommand}
 use Rattle.lists.proofs.Stores.{all-same}
 use Rattle.bigendian.proofs.Numbers.{length-bytes}
 use Rattle.bigendian.proofs.Stores.{length-none, length-next}
 use Rattle.gaps.specs.declared.Gap.{Gap}
 use Rattle.gaps.specs.declared.Gap.the-variants.{Parts, Tenths}
-use Rattle.line.specs.Line.{Entry, undescribed, described, Line}
+use Rattle.line.specs.Line.{Entry, undescribed, described, withRest, Line, entryOf}
 use Rattle.rows.specs.declared.Header.{Header}
-use Rattle.rows.specs.declared.Command.the-variants.{Describe, Silence}
-use Rattle.places.specs.Places.{toneAt}
-use Rattle.sheet.specs.Reading.{headerOf, bareLine, effect}
+use Rattle.rows.specs.declared.Command.the-variants.{Silence}
+use Rattle.sheet.specs.Reading.{headerOf, bareLine, withEntry, effect}
 use Rattle.tidyform.specs.Tidy.{entryBytes, toneBytes, wordBytes, mapBytes, gapBytes, headBytes, tidy}
-use Rattle.tidyform.proofs.Parts.{length-word-le, tones-grow, words-grow}
+use Rattle.tidyform.proofs.Parts.{length-rest-le, length-entry, length-word-le, tones-grow, words-grow}
 
 -- ---- what the first entries of a list add up to, where each counts by its number and value
 
@@ -48,21 +47,22 @@ module _ {A : Type 0} (S : Adding A) where
         ap (S .one n) (getD-set-other l i n v (S .absent) (λ e. omega arith)),
       )
 
-  -- one entry that changes adds at most what it counts; past the end nothing changes
-  set-adds : (n : ℕ) (l : List A) (i : ℕ) (v : A) → S .all n (set l i v) ≤ S .all n l + S .one i v
-  set-adds n l i v = by (decLe (length l) i)
+  -- an entry that another replaces adds at most what that one counts more; past the end nothing changes
+  set-adds : (n : ℕ) (l : List A) (i : ℕ) (v : A) (k : ℕ) → S .one i v ≤ S .one i (getD l i (S .absent)) + k → S .all n (set l i v) ≤ S .all n l + k
+  set-adds n l i v k adds = by (decLe (length l) i)
     where
-      inside : i < length l → (n : ℕ) → S .all n (set l i v) ≤ S .all n l + S .one i v
+      inside : i < length l → (n : ℕ) → S .all n (set l i v) ≤ S .all n l + k
       inside h zero = omega (arith, S .none (set l i v))
       inside h (suc n) = by-dec (ℕ-discrete n i) (inside h n)
         where
-          by-dec : Dec (n ≡ i) → S .all n (set l i v) ≤ S .all n l + S .one i v → S .all (suc n) (set l i v) ≤ S .all (suc n) l + S .one i v
+          by-dec : Dec (n ≡ i) → S .all n (set l i v) ≤ S .all n l + k → S .all (suc n) (set l i v) ≤ S .all (suc n) l + k
           by-dec (yes e) ih =
               let here : S .one n (getD (set l i v) n (S .absent)) ≡ S .one i v = rw e (ap (S .one i) (getD-set-same l i v (S .absent) h)) in
+              let old : S .one n (getD l n (S .absent)) ≡ S .one i (getD l i (S .absent)) = rw e in
               omega (arith, S .more n l, S .more n (set l i v), set-after n l i v (omega arith))
           by-dec (no m) ih = omega (arith, S .more n l, S .more n (set l i v), ap (S .one n) (getD-set-other l i n v (S .absent) m))
 
-      by : Dec (length l ≤ i) → S .all n (set l i v) ≤ S .all n l + S .one i v
+      by : Dec (length l ≤ i) → S .all n (set l i v) ≤ S .all n l + k
       by (yes h) = rw (set-out l i v h) (omega arith)
       by (no h) = inside (omega arith) n
 
@@ -79,6 +79,11 @@ tones = record {
   none = λ es. length-none (tones-grow es);
   more = λ n es. length-next (tones-grow es) n;
 }
+
+-- a rest adds at most its command to its tone, whatever rest the tone had
+pub rest-adds : (i r : ℕ) (e : Entry) → length (entryBytes i (withRest r e)) ≤ length (entryBytes i e) + restCommand
+rest-adds i r undescribed = omega arith
+rest-adds i r (described t q) = omega (arith, length-entry i t r, length-entry i t q, length-rest-le i r)
 
 -- ---- the maps
 
@@ -129,23 +134,17 @@ tidy-bare h =
       all-zero maps words (bareLine h .maps) (λ i. ap (mapLength i) (all-same words i 0)),
     )
 
-module _ (l : Line) (s : List ℕ) (at : ℕ) where
-  pub tidy-describe : (i : ℕ) → length (tidy (effect (Describe i) s at l)) ≤ length (tidy l) + length (entryBytes i (described (toneAt s at)))
-  tidy-describe i =
-      omega (
-        arith,
-        length-tidy l,
-        length-tidy (effect (Describe i) s at l),
-        set-adds tones (l .size) (l .entries) i (described (toneAt s at)),
-      )
+-- a tone with another entry
+pub tidy-entry : (l : Line) (i : ℕ) (e : Entry) (k : ℕ) → length (entryBytes i e) ≤ length (entryBytes i (entryOf l i)) + k
+    → length (tidy (withEntry l i e)) ≤ length (tidy l) + k
+tidy-entry l i e k adds = omega (arith, length-tidy l, length-tidy (withEntry l i e), set-adds tones (l .size) (l .entries) i e k adds)
 
-  pub tidy-silence : (word map : ℕ) → length (tidy (effect (Silence word map) s at l)) ≤ length (tidy l) + silenceCommand
-  tidy-silence word map =
-      let both = bitOr (getD (l .maps) word 0) map in
-      omega (
-        arith,
-        length-tidy l,
-        length-tidy (effect (Silence word map) s at l),
-        set-adds maps (wordsOf (l .size)) (l .maps) word both,
-        length-word-le word both,
-      )
+pub tidy-silence : (l : Line) (s : List ℕ) (at word map : ℕ) → length (tidy (effect (Silence word map) s at l)) ≤ length (tidy l) + silenceCommand
+tidy-silence l s at word map =
+    let both = bitOr (getD (l .maps) word 0) map in
+    omega (
+      arith,
+      length-tidy l,
+      length-tidy (effect (Silence word map) s at l),
+      set-adds maps (wordsOf (l .size)) (l .maps) word both silenceCommand (omega (arith, length-word-le word both)),
+    )

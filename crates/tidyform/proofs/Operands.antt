@@ -1,4 +1,5 @@
--- Operands in range, and the command of a tone: it is allowed, describes the tone, and meets no refusal where the tone is in range.
+-- Operands in range, and the commands of a tone: its own is allowed, describes the tone, and meets no refusal where the tone is in range;
+-- nor does its rest's, where the tone is described and has had none.
 -- Assumes nothing.
 use mathlib.Core.Path.{_≡_, refl, sym, ap, _∙_}
 use mathlib.Core.Bool.{Bool, false, true}
@@ -19,16 +20,18 @@ use Rattle.readings.proofs.Readings.{back-usable, back-fits, float-back, not-ov
 use Rattle.line.specs.declared.Numbers.{Numbers}
 use Rattle.line.specs.declared.Kind.{Kind}
 use Rattle.line.specs.declared.Kind.the-variants.{Pair, Single, Read}
-use Rattle.line.specs.Tone.{mostCap, kindCost, Cost, NumbersInRange, InRange}
-use Rattle.line.specs.Line.{Entry, isDescribed}
+use Rattle.line.specs.declared.Tone.{Tone}
+use Rattle.line.specs.Tone.{mostCap, kindCost, Cost, NumbersInRange, InRange, RestInRange}
+use Rattle.line.specs.Line.{described, isDescribed}
+use Rattle.line.proofs.Rested.{takes-rest}
 use Rattle.rows.specs.declared.Header.{Header}
 use Rattle.rows.specs.declared.Command.the-variants.{Describe}
-use Rattle.rows.specs.Rows.{Seen, Operand, Row, within, toneNumber, float, lastFloat, map, levelsOf, ratioOf, capAndMask, numbers, withCode}
+use Rattle.rows.specs.Rows.{Known, Seen, Operand, takesRest, isRestOf, Row, within, toneNumber, restedTone, restOperand, float, lastFloat, map, levelsOf, ratioOf, capAndMask, numbers, rest, withCode}
 use Rattle.command.specs.Format.{today}
 use Rattle.command.proofs.Walk.{seenAt}
 use Rattle.tidyform.specs.Tidy.{readingRow, readingBits, kindRow, kindValues}
 use Rattle.tidyform.proofs.Parts.{row-is-tone}
-use Rattle.tidyform.proofs.Written.{after, Good, nothing, value}
+use Rattle.tidyform.proofs.Written.{after, Good, no-value, value}
 
 -- Operands in range.
 
@@ -38,13 +41,21 @@ pub ranged : {seen : Seen} {os : List Operand} {vs : List ℕ} (w low high v : �
 ranged {seen} w low high v f a b = value {seen = seen} {o = within w low high} f (λ place. rw (le-ltb v low a, le-ltb high v b))
 
 -- a tone below N, not yet described
-newTone : {seen : Seen} {os : List Operand} {vs : List ℕ} (i : ℕ) → i < 256 → i < seen .header .size → isDescribed (seen .known) ≡ false
+newTone : {seen : Seen} {os : List Operand} {vs : List ℕ} (i : ℕ) → i < 256 → i < seen .header .size → isDescribed (seen .known .entry) ≡ false
     → Good (after seen i) os vs → Good seen (toneNumber 1 ∷ os) (i ∷ vs)
 newTone {seen} i f a b = value {seen = seen} {o = toneNumber 1} f (λ place. rw (lt-leb (seen .header .size) i a, b))
 
+-- a tone below N, described, that has had no rest; and a rest that it takes
+restTone : {seen : Seen} {os : List Operand} {vs : List ℕ} (i : ℕ) → i < 256 → i < seen .header .size → takesRest (seen .known) ≡ true
+    → Good (after seen i) os vs → Good seen (restedTone 1 ∷ os) (i ∷ vs)
+restTone {seen} i f a b = value {seen = seen} {o = restedTone 1} f (λ place. rw (lt-leb (seen .header .size) i a, b))
+
+newRest : {seen : Seen} (r : ℕ) → r < 2 ^ 32 → isRestOf (parts (seen .header .gap)) (seen .known .entry) r ≡ true → Good seen (restOperand ∷ []) (r ∷ [])
+newRest {seen} r f a = value {seen = seen} {o = restOperand} f (λ place. rw a) no-value
+
 -- a map of 32 bits that names no tone from N on; its word stands before it
 pub newMap : {seen : Seen} (v : ℕ) → v < 2 ^ 32 → namesBeyond (seen .header .size) (getD (seen .before) 0 0) v ≡ false → Good seen (map ∷ []) (v ∷ [])
-newMap {seen} v f a = value {seen = seen} {o = map} f (λ place. rw a) nothing
+newMap {seen} v f a = value {seen = seen} {o = map} f (λ place. rw a) no-value
 
 -- a float in range, by its bits
 usable : {seen : Seen} {os : List Operand} {vs : List ℕ} (x : Float) → FloatInRange x → Good (after seen (toBits binary32 x)) os vs
@@ -60,7 +71,7 @@ lastUsable {seen} back reading x R over =
 
 -- a cap and a mask in range
 bounds : {seen : Seen} (most c m : ℕ) → most < 256 → c ≤ most → m ≤ mostPower → Good seen (capAndMask most) (c ∷ m ∷ [])
-bounds most c m small c-high m-high = ranged 1 0 most c (omega arith) (omega arith) c-high (ranged 8 0 mostPower m (omega arith) (omega arith) m-high nothing)
+bounds most c m small c-high m-high = ranged 1 0 most c (omega arith) (omega arith) c-high (ranged 8 0 mostPower m (omega arith) (omega arith) m-high no-value)
 
 -- A tone's command.
 
@@ -78,7 +89,7 @@ pub tone-does : (k : Kind) (h : Header) (vs : List ℕ) → kindRow k .does h vs
 tone-does k h vs = ap (λ (r : Row). r .does h vs) (row-is-tone k)
 
 -- it meets no refusal
-module _ (h : Header) (known : Entry) (i : ℕ) (small : i < 256) (of-line : i < h .size) (new : isDescribed known ≡ false) where
+module _ (h : Header) (known : Known) (i : ℕ) (small : i < 256) (of-line : i < h .size) (new : isDescribed (known .entry) ≡ false) where
   good-numbers : (isSingle : Bool) (n : Numbers) → NumbersInRange n → mostCap isSingle < 256 → n .cap ≤ mostCap isSingle → n .mask ≤ mostPower
       → Good (seenAt h known) (toneNumber 1 ∷ numbers isSingle) (i ∷ n .noise ∷ n .gain ∷ n .cap ∷ n .mask ∷ [])
   good-numbers isSingle n I s c m =
@@ -104,3 +115,10 @@ module _ (h : Header) (known : Entry) (i : ℕ) (small : i < 256) (of-line : i <
   good-tone (Pair n) I = good-numbers false n (I .kind) (omega arith) (I .bounds .cap-high) (I .bounds .mask-high)
   good-tone (Single n) I = good-numbers true n (I .kind) (omega arith) (I .bounds .cap-high) (I .bounds .mask-high)
   good-tone (Read n) I = good-reading (n .reading) (n .cap) (n .mask) (I .kind) (I .cost .high) (I .bounds .cap-high) (I .bounds .mask-high)
+
+-- Its rest's.
+
+pub good-rest : (h : Header) (known : Known) (i : ℕ) (t : Tone) (old r : ℕ) → i < 256 → i < h .size → known .entry ≡ described t old → known .rested ≡ false
+    → InRange (parts (h .gap)) t → RestInRange (parts (h .gap)) t r → Good (seenAt h known) (rest .operands) (i ∷ r ∷ [])
+good-rest h known i t old r small of-line is new I R =
+    restTone i small of-line (rw (is, new)) (newRest r (omega (arith, R .below-cost, I .cost .high)) (rw is (takes-rest (parts (h .gap)) t r R)))

@@ -1,22 +1,25 @@
 -- The parts of the tidy form: how long each is, and how the lists of them grow. Assumes nothing.
 use mathlib.Core.Path.{_≡_, refl, ap, _∙_}
+use mathlib.Core.Bool.{Bool, true, false, cond}
 use mathlib.Core.List.{List, [], _∷_, _++_}
 use Prim.Native.Nat.{ℕ, _+_, _≤_}
-use native.Mathlib.Decide.{ℕ-discrete}
+use native.Mathlib.Nat.{le-trans}
 use native.Mathlib.Omega.{arith}
 use borrow.Author.Tests.{eq-eqb, ne-eqb}
+use lib.Dec.{eqb}
 use lib.ListN.{length, getD, length-append}
-use Rattle.sizes.specs.Sizes.{silenceCommand}
+use Rattle.sizes.specs.Sizes.{silenceCommand, restCommand}
 use Rattle.bigendian.proofs.Numbers.{length-bytes}
 use Rattle.bigendian.proofs.Stores.{Growing}
 use Rattle.readings.specs.declared.Reading.{Reading}
 use Rattle.readings.specs.declared.Reading.the-variants.{Both, Ratio}
 use Rattle.line.specs.declared.Kind.{Kind}
 use Rattle.line.specs.declared.Kind.the-variants.{Pair, Single, Read}
-use Rattle.line.specs.Line.{Entry, undescribed}
-use Rattle.rows.specs.Rows.{width}
+use Rattle.line.specs.declared.Tone.{Tone}
+use Rattle.line.specs.Line.{Entry, undescribed, described}
+use Rattle.rows.specs.Rows.{rest, width}
 use Rattle.rows.specs.Codes.{toneRow, silenceRow}
-use Rattle.tidyform.specs.Tidy.{written, readingRow, readingBits, kindRow, kindValues, entryBytes, toneBytes, wordBytes, mapBytes}
+use Rattle.tidyform.specs.Tidy.{written, readingRow, readingBits, kindRow, kindValues, restBytes, entryBytes, toneBytes, wordBytes, mapBytes}
 
 -- A command.
 
@@ -40,6 +43,20 @@ length-described i (Read n) = by (n .reading)
     by (Both l) = simp (length-append, length-bytes)
     by (Ratio x) = simp (length-append, length-bytes)
 
+-- a command that a test leaves out has at most its bytes
+length-unless : (t : Bool) (command : List ℕ) → length (cond t [] command) ≤ length command
+length-unless true command = omega arith
+length-unless false command = omega arith
+
+pub length-rest-le : (i r : ℕ) → length (restBytes i r) ≤ restCommand
+length-rest-le i r = le-trans (length-unless (eqb r 0) (written rest (i ∷ r ∷ []))) (simp (length-append, length-bytes) (omega arith))
+
+-- a described tone has its command's bytes and its rest's
+pub length-entry : (i : ℕ) (t : Tone) (r : ℕ) → length (entryBytes i (described t r)) ≡ 1 + width (kindRow (t .kind) .operands) + length (restBytes i r)
+length-entry i t r =
+    let command = written (kindRow (t .kind)) (i ∷ kindValues (t .kind)) in
+    omega (arith, length-append command (restBytes i r), length-described i (t .kind))
+
 pub no-word : (word : ℕ) {map : ℕ} → map ≡ 0 → wordBytes word map ≡ []
 no-word word {map} e = rw (eq-eqb map 0 e)
 
@@ -53,11 +70,7 @@ pub length-no-word : (word : ℕ) {map : ℕ} → map ≡ 0 → length (wordByte
 length-no-word word e = ap length (no-word word e)
 
 pub length-word-le : (word map : ℕ) → length (wordBytes word map) ≤ silenceCommand
-length-word-le word map = by-zero (ℕ-discrete map 0)
-  where
-    by-zero : Dec (map ≡ 0) → length (wordBytes word map) ≤ silenceCommand
-    by-zero (yes e) = omega (arith, length-no-word word e)
-    by-zero (no n) = omega (arith, length-word word n)
+length-word-le word map = le-trans (length-unless (eqb map 0) (written silenceRow (word ∷ map ∷ []))) (simp (length-append, length-bytes) (omega arith))
 
 -- The tones and the words: lists that grow by one part at a time.
 

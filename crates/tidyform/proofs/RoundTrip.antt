@@ -1,51 +1,44 @@
 -- A line in its tidy form reads back as that line. Laws:
 --   filled-all                        a list filled from the front is the list
---   tones-end, maps-end, head-ends    the tones, the maps and the first three commands read on to the whole line
+--   tone-ends                         a tone's command, and its rest's straight after it, read on to the whole line
+--   tones-end, maps-end, head-ends    so do the tones, the maps and the first three commands
 --   gap-ends                          the gap's command does, of either unit
 --   tidy-reads                        so does the tidy form
 -- Assumes nothing.
-use mathlib.Core.Path.{_≡_, refl, sym, ap, _∙_}
+use mathlib.Core.Path.{_≡_, refl, sym, ap, subst, _∙_}
 use mathlib.Core.Bool.{Bool, true, false, cond}
 use mathlib.Core.List.{List, [], _∷_, _++_, append-assoc}
 use mathlib.Core.Logic.{inl, inr}
 use Prim.Native.Nat.{ℕ, zero, suc, _+_, _≤_, _<_}
 use native.Mathlib.Nat.{eq-or-lt-of-le, le-of-suc-le-suc, not-suc-le-zero}
 use native.Mathlib.Omega.{arith}
-use borrow.Author.Tests.{le-ltb, eqb-true}
+use borrow.Author.Tests.{le-ltb, eqb-true, ne-eqb}
 use lib.Dec.{eqb}
-use lib.ListN.{length, getD, set, drop, replicate, length-set, length-replicate, length-append}
-use lib.Seq.{getD-set-same, getD-set-other, set-getD, ext-getD}
-use Rattle.sizes.specs.Sizes.{mostPower, mostWords, mostTones, longestSheet, wordsOf}
+use lib.ListN.{length, getD, set, replicate, length-set, length-replicate}
+use lib.Seq.{getD-set-same, getD-set-other, set-getD, set-set, ext-getD}
+use Rattle.sizes.specs.Sizes.{mostPower, mostWords, mostTones, longestSheet, restCommand, wordsOf}
 use Rattle.lists.proofs.Stores.{all-same}
-use Rattle.bigendian.proofs.Numbers.{bytes-one}
+use Rattle.bigendian.proofs.Numbers.{number-from, bytes-one}
 use Rattle.silence.proofs.Maps.{clear-beyond}
-use Rattle.line.specs.declared.Kind.{Kind}
 use Rattle.gaps.specs.declared.Gap.{Gap}
 use Rattle.gaps.specs.declared.Gap.the-variants.{Parts, Tenths}
 use Rattle.gaps.specs.Gap.{gapUnit, mostGap, mostTenths, GapInRange}
-use Rattle.line.specs.Tone.{KindInRange, InRange}
-use Rattle.line.specs.Line.{Entry, undescribed, described, EntryInRange, LineInRange, Line, gapOf}
-use Rattle.rows.specs.declared.Command.the-variants.{Describe, Silence}
-use Rattle.rows.specs.Rows.{Seen, width, gap, tenths, budget, end}
+use Rattle.line.specs.declared.Tone.{Tone}
+use Rattle.line.specs.Line.{Entry, undescribed, described, EntryInRange, LineInRange, Line, gapOf, entryOf, restTotal}
+use Rattle.rows.specs.declared.Header.{Header}
+use Rattle.rows.specs.declared.Command.the-variants.{Rest, Silence}
+use Rattle.rows.specs.Rows.{Row, gap, tenths, budget, rest, end}
 use Rattle.rows.specs.Codes.{sizeRow, silenceRow}
-use Rattle.places.specs.Places.{toneAt}
-use Rattle.sheet.specs.Reading.{accepted, readingIn, reading, bareLine, emptyLine, afterCommand, go}
+use Rattle.places.specs.Places.{restAt}
+use Rattle.command.specs.Format.{today}
+use Rattle.sheet.specs.Reading.{accepted, bareLine, withEntry, SoFar, nothing, restedAfter, go, afterCommand, saidIn, said, reading}
+use Rattle.sheet.proofs.Rests.{is-accepted}
 use Rattle.sheet.proofs.Sound.{Sound}
-use Rattle.tidyform.specs.Tidy.{written, kindRow, kindValues, entryBytes, wordBytes, toneBytes, mapBytes, gapBytes, headBytes, tidy}
-use Rattle.tidyform.proofs.Parts.{row-is-tone, length-described}
-use Rattle.tidyform.proofs.Written.{byte-stands, stands-after, stands-length, seenIn, Good, nothing, operands-stand, Reads, reads-written, reads-end}
-use Rattle.tidyform.proofs.Operands.{ranged, newMap, good-tone, tone-found, tone-does}
+use Rattle.tidyform.specs.Tidy.{written, kindRow, kindValues, restBytes, entryBytes, wordBytes, toneBytes, mapBytes, gapBytes, headBytes, tidy}
+use Rattle.tidyform.proofs.Parts.{row-is-tone}
+use Rattle.tidyform.proofs.Written.{seenIn, Good, no-value, Stand, Reads, next, reads-written, reads-end}
+use Rattle.tidyform.proofs.Operands.{ranged, newMap, good-tone, tone-found, tone-does, good-rest}
 use Rattle.tidyform.proofs.Tones.{tone-stands}
-
--- where the command of a tone of a kind stands in a sheet, the sheet has that tone
-tone-there : {seen : Seen} (s q : List ℕ) (at i : ℕ) (k : Kind) → KindInRange k → at ≤ length s → drop at s ≡ written (kindRow k) (i ∷ kindValues k) ++ q
-    → Good seen (kindRow k .operands) (i ∷ kindValues k) → toneAt s at ≡ record { kind = k }
-tone-there s q at i k I h d good =
-    let all : List ℕ = written (kindRow k) (i ∷ kindValues k) in
-    let code = byte-stands s _ at (kindRow k .code) d in
-    let operands = operands-stand s q (at + 1) good (stands-after s (kindRow k .code ∷ []) _ at 1 refl d) in
-    let whole : at + 1 + width (kindRow k .operands) ≤ length s = omega (arith, stands-length s (all ++ q) at h d, length-append all q, length-described i k) in
-    ap (λ (j : Kind). record { kind = j }) (tone-stands s at i k I code whole operands)
 
 -- A list filled from the front.
 
@@ -96,34 +89,79 @@ part l n m = record {
   maps = filled 0 (wordsOf (l .size)) (l .maps) m;
 }
 
--- from there on this list reads to the end, and to the whole line
+-- what is read then, with the tones that have had a 0B
+abbrev along : Line → (n m : ℕ) → (rested : ℕ → Bool) → SoFar
+along l n m rested = record { line = part l n m; rested = rested }
+
+-- no tone from n on has had one
+abbrev Unrested : (n : ℕ) → (rested : ℕ → Bool) → Type 0
+Unrested n rested = (i : ℕ) → n ≤ i → rested i ≡ false
+
+-- from there on this list reads to the end, and to the whole line, whichever of the n tones have had one
 abbrev Ends : Line → List ℕ → (n m : ℕ) → Type 0
-Ends l q n m = Reads q 3 (part l n m) (accepted l)
+Ends l q n m = (rested : ℕ → Bool) → Unrested n rested → Reads q 3 (along l n m rested) (accepted l)
 
 module _ (l : Line) (S : Sound l) where
   -- Tones.
 
-  tone-good : (n : ℕ) (k : Kind) (q : List ℕ) → n < l .size → InRange (gapOf l) (record { kind = k })
-      → Good (seenIn (part l n 0) (written (kindRow k) (n ∷ kindValues k) ++ q)) (kindRow k .operands) (n ∷ kindValues k)
-  unfolding part
-  tone-good n k q h I =
-      let small : n < 256 = omega (arith, S .in-range .size-high) in
-      let new = absent-from undescribed (l .size) (l .entries) n n (omega arith) in
-      good-tone _ _ n small h (rw (row-is-tone k, bytes-one n small, new)) k I
+  module _ (n : ℕ) (t : Tone) (r : ℕ) (q : List ℕ) (h : n < l .size) (is : entryOf l n ≡ described t r) (I : EntryInRange (gapOf l) (described t r))
+      (rested : ℕ → Bool) (unrested : Unrested n rested) where
+    abbrev own : Row
+    own = kindRow (t .kind)
 
-  tone-goes : (n : ℕ) (k : Kind) (q : List ℕ) → n < l .size → getD (l .entries) n undescribed ≡ described (record { kind = k }) → InRange (gapOf l) (record { kind = k })
-      → (s : List ℕ) (at to : ℕ) → at ≤ length s → drop at s ≡ written (kindRow k) (n ∷ kindValues k) ++ q
-      → afterCommand (Describe n) to s at 3 (part l n 0) ≡ go to 3 (part l (suc n) 0)
-  unfolding part filled
-  tone-goes n k q small e I s at to h d = rw (e, tone-there s q at n k (I .kind) h d (tone-good n k q small I))
+    abbrev carried : List ℕ
+    carried = n ∷ kindValues (t .kind)
 
-  entry-ends : (n : ℕ) (e : Entry) (q : List ℕ) → n < l .size → getD (l .entries) n undescribed ≡ e → EntryInRange (gapOf l) e
-      → Ends l q (suc n) 0 → Ends l (entryBytes n e ++ q) n 0
+    -- after its own command tone n has no rest
+    abbrev between : SoFar
+    between = record { line = withEntry (part l n 0) n (described t 0); rested = rested }
+
+    small : n < 256
+    small = omega (arith, S .in-range .size-high)
+
+    tone-good : (p : List ℕ) → Good (seenIn (along l n 0 rested) (written own carried ++ p)) (own .operands) carried
+    unfolding part
+    tone-good p =
+        let new = absent-from undescribed (l .size) (l .entries) n n (omega arith) in
+        good-tone _ _ n small h (rw (row-is-tone (t .kind), bytes-one n small, new)) (t .kind) (I .0)
+
+    there : entryOf (between .line) n ≡ described t 0
+    unfolding part
+    there = getD-set-same (part l n 0 .entries) n (described t 0) undescribed (omega (arith, length-filled undescribed (l .size) (l .entries) n))
+
+    rest-good : Good (seenIn between (written rest (n ∷ r ∷ []) ++ q)) (rest .operands) (n ∷ r ∷ [])
+    unfolding part
+    rest-good = good-rest _ _ n t 0 r small h (rw (bytes-one n small) there) (rw (bytes-one n small) (unrested n (omega arith))) (I .0) (I .1)
+
+    rest-goes : (s : List ℕ) (at to : ℕ) → next rest at ≤ length s → Stand s (at + 1) (rest .operands) (n ∷ r ∷ [])
+        → afterCommand (Rest n) to s at 3 between ≡ go to 3 (along l (suc n) 0 (restedAfter (Rest n) rested))
+    unfolding part filled
+    rest-goes s at to whole st =
+        let value : restAt s at ≡ r = number-from s at restCommand 2 4 (at + 1 + 1) (omega arith) (omega arith) (omega arith) (omega arith) ∙ st .1 .0 in
+        rw (there, value, is, set-set)
+
+    -- its rest's, if it has one, is the next
+    rest-ends : (none : Bool) → eqb r 0 ≡ none → Ends l q (suc n) 0 → Reads (cond none [] (written rest (n ∷ r ∷ [])) ++ q) 3 between (accepted l)
+    unfolding part filled
+    rest-ends true e ends = rw (is, eqb-true r 0 e) at (ends rested (λ i k. unrested i (omega arith)))
+    rest-ends false e ends =
+        reads-written between 3 rest (n ∷ r ∷ []) q refl rest-good (λ s at code whole st. rest-goes s at _ whole st)
+        (ends (restedAfter (Rest n) rested) (λ i k. rw (ne-eqb i n (λ e. omega arith)) (unrested i (omega arith))))
+
+    tone-ends : Ends l q (suc n) 0 → Reads (entryBytes n (described t r) ++ q) 3 (along l n 0 rested) (accepted l)
+    tone-ends ends =
+        let more : List ℕ = restBytes n r ++ q in
+        subst (λ (p : List ℕ). Reads p 3 (along l n 0 rested) (accepted l)) (sym (append-assoc (written own carried) (restBytes n r) q))
+        (reads-written (along l n 0 rested) 3 own carried more (tone-found (t .kind)) (tone-good more)
+        (λ s at code whole st. rw (tone-does (t .kind), tone-stands s at n (t .kind) (I .0 .kind) code whole st))
+        (rest-ends (eqb r 0) refl ends))
+
+  entry-ends : (n : ℕ) (e : Entry) (q : List ℕ) → n < l .size → entryOf l n ≡ e → EntryInRange (gapOf l) e → Ends l q (suc n) 0
+      → Ends l (entryBytes n e ++ q) n 0
   unfolding part
-  entry-ends n undescribed q h e I ends = rw (← filled-skip undescribed (l .size) (l .entries) n e) ends
-  entry-ends n (described t) q h e I ends =
-      reads-written (part l n 0) 3 (kindRow (t .kind)) (n ∷ kindValues (t .kind)) q (tone-found (t .kind)) (tone-good n (t .kind) q h I)
-      (λ s at k d. rw (tone-does (t .kind)) (tone-goes n (t .kind) q h e I s at _ k d)) ends
+  entry-ends n undescribed q h e I ends rested unrested =
+      rw (← filled-skip undescribed (l .size) (l .entries) n e) (ends rested (λ i k. unrested i (omega arith)))
+  entry-ends n (described t r) q h e I ends rested unrested = tone-ends n t r q h e I rested unrested ends
 
   tones-end : (n : ℕ) (q : List ℕ) → n ≤ l .size → Ends l q n 0 → Ends l (toneBytes n (l .entries) ++ q) 0 0
   unfolding toneBytes
@@ -134,16 +172,17 @@ module _ (l : Line) (S : Sound l) where
 
   -- Maps.
 
-  map-goes : (n to : ℕ) (s : List ℕ) (at : ℕ)
-      → afterCommand (Silence n (getD (l .maps) n 0)) to s at 3 (part l (l .size) n) ≡ go to 3 (part l (l .size) (suc n))
+  map-goes : (n to : ℕ) (rested : ℕ → Bool) (s : List ℕ) (at : ℕ)
+      → afterCommand (Silence n (getD (l .maps) n 0)) to s at 3 (along l (l .size) n rested) ≡ go to 3 (along l (l .size) (suc n) rested)
   unfolding part filled
-  map-goes n to s at =
+  map-goes n to rested s at =
       let new : getD (filled 0 (wordsOf (l .size)) (l .maps) n) n 0 ≡ 0 = absent-from 0 (wordsOf (l .size)) (l .maps) n n (omega arith) in
       rw new
 
-  map-good : (n : ℕ) (q : List ℕ) → n < wordsOf (l .size) → Good (seenIn (part l (l .size) n) q) (silenceRow .operands) (n ∷ getD (l .maps) n 0 ∷ [])
+  map-good : (n : ℕ) (rested : ℕ → Bool) (q : List ℕ) → n < wordsOf (l .size)
+      → Good (seenIn (along l (l .size) n rested) q) (silenceRow .operands) (n ∷ getD (l .maps) n 0 ∷ [])
   unfolding part
-  map-good n q h =
+  map-good n rested q h =
       let v : ℕ = getD (l .maps) n 0 in
       let k : n < mostWords = omega (arith, S .in-range .size-high) in
       ranged 1 0 7 n (omega arith) (omega arith) (omega arith) (newMap v (S .maps-small n) (clear-beyond (l .size) n v (λ k b. S .maps-within n k)))
@@ -151,10 +190,11 @@ module _ (l : Line) (S : Sound l) where
   map-ends : (n : ℕ) (empty : Bool) (q : List ℕ) → n < wordsOf (l .size) → eqb (getD (l .maps) n 0) 0 ≡ empty → Ends l q (l .size) (suc n)
       → Ends l (cond empty [] (written silenceRow (n ∷ getD (l .maps) n 0 ∷ [])) ++ q) (l .size) n
   unfolding part
-  map-ends n true q h e ends = rw (← filled-skip 0 (wordsOf (l .size)) (l .maps) n (eqb-true (getD (l .maps) n 0) 0 e)) ends
-  map-ends n false q h e ends =
+  map-ends n true q h e ends rested unrested = rw (← filled-skip 0 (wordsOf (l .size)) (l .maps) n (eqb-true (getD (l .maps) n 0) 0 e)) (ends rested unrested)
+  map-ends n false q h e ends rested unrested =
       let vs : List ℕ = n ∷ getD (l .maps) n 0 ∷ [] in
-      reads-written (part l (l .size) n) 3 silenceRow vs q refl (map-good n (written silenceRow vs ++ q) h) (λ s at k d. map-goes n _ s at) ends
+      reads-written (along l (l .size) n rested) 3 silenceRow vs q refl (map-good n rested (written silenceRow vs ++ q) h)
+      (λ s at code whole st. map-goes n _ rested s at) (ends rested unrested)
 
   maps-end : (n : ℕ) (q : List ℕ) → n ≤ wordsOf (l .size) → Ends l q (l .size) n → Ends l (mapBytes n (l .maps) ++ q) (l .size) 0
   unfolding mapBytes
@@ -169,33 +209,44 @@ module _ (l : Line) (S : Sound l) where
   unfolding part
   part-all = rw (filled-all undescribed (l .size) (l .entries) (S .entries-sized), filled-all 0 (wordsOf (l .size)) (l .maps) (S .maps-sized))
 
+  -- before any tone
+  abbrev bare : Header → SoFar
+  bare h = record { line = bareLine h; rested = λ i. false }
+
   -- the gap's command, of either unit
-  gap-ends : (g : Gap) (n : ℕ) (q : List ℕ) → GapInRange g → Reads q 2 (bareLine (record { size = n; gap = g; budget = 0 })) (accepted l)
-      → Reads (gapBytes g ++ q) 1 (bareLine (record { size = n; gap = Parts 0; budget = 0 })) (accepted l)
+  gap-ends : (g : Gap) (n : ℕ) (q : List ℕ) → GapInRange g → Reads q 2 (bare (record { size = n; gap = g; budget = 0 })) (accepted l)
+      → Reads (gapBytes g ++ q) 1 (bare (record { size = n; gap = Parts 0; budget = 0 })) (accepted l)
   unfolding gapBytes
-  gap-ends (Parts g) n q I = reads-written _ 1 gap (g ∷ []) q refl (ranged 2 gapUnit mostGap g (omega arith) (I .low) (I .high) nothing) (λ s at k d. refl)
-  gap-ends (Tenths d) n q I = reads-written _ 1 tenths (d ∷ []) q refl (ranged 1 0 mostTenths d (omega arith) (omega arith) I nothing) (λ s at k d. refl)
+  gap-ends (Parts g) n q I = reads-written _ 1 gap (g ∷ []) q refl (ranged 2 gapUnit mostGap g (omega arith) (I .low) (I .high) no-value) (λ s at c w st. refl)
+  gap-ends (Tenths d) n q I = reads-written _ 1 tenths (d ∷ []) q refl (ranged 1 0 mostTenths d (omega arith) (omega arith) I no-value) (λ s at c w st. refl)
 
   -- the first three commands
   head-ends : (q : List ℕ) → Ends l q 0 0
-      → Reads (written sizeRow (l .size ∷ []) ++ (gapBytes (l .gap) ++ (written budget (l .budget ∷ []) ++ q))) 0 emptyLine (accepted l)
+      → Reads (written sizeRow (l .size ∷ []) ++ (gapBytes (l .gap) ++ (written budget (l .budget ∷ []) ++ q))) 0 nothing (accepted l)
   unfolding part filled
   head-ends q ends =
       let I : LineInRange l = S .in-range in
-      reads-written emptyLine 0 sizeRow (l .size ∷ []) _ refl (ranged 2 1 mostTones (l .size) (omega arith) (I .size-low) (I .size-high) nothing) (λ s at k d. refl)
+      reads-written nothing 0 sizeRow (l .size ∷ []) _ refl (ranged 2 1 mostTones (l .size) (omega arith) (I .size-low) (I .size-high) no-value) (λ s at c w st. refl)
       (gap-ends (l .gap) (l .size) _ (I .gap)
-      (reads-written _ 2 budget (l .budget ∷ []) q refl (ranged 8 0 mostPower (l .budget) (omega arith) (omega arith) (I .budget-high) nothing) (λ s at k d. refl) ends))
+      (reads-written _ 2 budget (l .budget ∷ []) q refl (ranged 8 0 mostPower (l .budget) (omega arith) (omega arith) (I .budget-high) no-value) (λ s at c w st. refl)
+      (ends (λ i. false) (λ i k. refl))))
 
   tidy-parts : tidy l ≡ written sizeRow (l .size ∷ []) ++ (gapBytes (l .gap) ++ (written budget (l .budget ∷ [])
       ++ (toneBytes (l .size) (l .entries) ++ (mapBytes (wordsOf (l .size)) (l .maps) ++ written end []))))
   unfolding tidy headBytes
   tidy-parts = regroup (written sizeRow (l .size ∷ [])) (gapBytes (l .gap)) (written budget (l .budget ∷ [])) _ _ _
 
-  tidy-ends : Reads (tidy l) 0 emptyLine (accepted l)
-  tidy-ends = rw tidy-parts (head-ends _ (tones-end (l .size) _ (omega arith) (maps-end (wordsOf (l .size)) _ (omega arith) (rw part-all (reads-end l)))))
+  tidy-ends : Reads (tidy l) 0 nothing (accepted l)
+  tidy-ends = rw tidy-parts (head-ends _ (tones-end (l .size) _ (omega arith) (maps-end (wordsOf (l .size)) _ (omega arith) last)))
+    where
+      last : Ends l (written end []) (l .size) (wordsOf (l .size))
+      last rested unrested = rw part-all (reads-end (record { line = l; rested = rested }))
 
-  pub tidy-reads : length (tidy l) ≤ longestSheet → reading (tidy l) ≡ accepted l
-  unfolding readingIn
-  tidy-reads short =
+  tidy-says : length (tidy l) ≤ longestSheet → said (tidy l) ≡ accepted l
+  unfolding saidIn
+  tidy-says short =
       rw (le-ltb longestSheet (length (tidy l)) short)
       (tidy-ends (tidy l) 0 (suc (length (tidy l))) (omega arith) refl (omega arith))
+
+  pub tidy-reads : length (tidy l) ≤ longestSheet → restTotal l ≤ l .budget → reading (tidy l) ≡ accepted l
+  tidy-reads short = is-accepted today (tidy l) l (tidy-says short)

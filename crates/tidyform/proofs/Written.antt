@@ -12,13 +12,12 @@ use lib.ListN.{length, getD, drop, length-append, length-drop}
 use lib.Seq.{getD-drop, drop-drop, drop-at}
 use Rattle.bigendian.specs.Number.{number, bytes}
 use Rattle.bigendian.proofs.Numbers.{number-same, number-here, length-bytes}
-use Rattle.line.specs.Line.{Line, entryOf}
 use Rattle.rows.specs.declared.Command.{Command}
 use Rattle.rows.specs.Rows.{Seen, Operand, Row, withCode, width, operandsFrom, rowAt, end}
 use Rattle.places.specs.Places.{addressed}
 use Rattle.command.specs.Format.{today, decoded}
 use Rattle.command.proofs.Walk.{seenAt}
-use Rattle.sheet.specs.Reading.{Meaning, accepted, go, headerOf, commandIn, afterCommand, readFrom}
+use Rattle.sheet.specs.Reading.{Meaning, accepted, headerOf, SoFar, go, afterCommand, knownOf, commandIn, readFrom}
 use Rattle.tidyform.specs.Tidy.{operandBytes, written}
 
 -- What stands in a sheet from a place on.
@@ -49,18 +48,18 @@ stands-length s q at h e = omega (arith, ap length e, length-drop at s)
 abbrev pub after : Seen → (value : ℕ) → Seen
 after seen v = record { header = seen .header; known = seen .known; before = seen .before ++ (v ∷ []) }
 
--- what the first is judged by, with the line so far, where these bytes stand
-abbrev pub seenIn : Line → List ℕ → Seen
-seenIn l q = seenAt (headerOf l) (entryOf l (addressed q 0))
+-- what the first is judged by, with what is read so far, where these bytes stand
+abbrev pub seenIn : SoFar → List ℕ → Seen
+seenIn x q = seenAt (headerOf (x .line)) (knownOf x (addressed q 0))
 
 -- the values fit their operands' widths and meet no refusal
 pub data Good : Seen → List Operand → (values : List ℕ) → Type 0 where
-  nothing : {seen : Seen} → Good seen [] []
+  no-value : {seen : Seen} → Good seen [] []
   value : {seen : Seen} {o : Operand} {os : List Operand} {v : ℕ} {vs : List ℕ} → v < 256 ^ o .width → ((place : ℕ) → o .judge seen v place ≡ none)
       → Good (after seen v) os vs → Good seen (o ∷ os) (v ∷ vs)
 
 length-operands : {seen : Seen} {os : List Operand} {vs : List ℕ} → Good seen os vs → length (operandBytes os vs) ≡ width os
-length-operands nothing = refl
+length-operands no-value = refl
 length-operands (value {o = o} {v = v} h p g) = simp (length-append, length-bytes) (omega (arith, length-operands g))
 
 -- The values of operands stand in a sheet, one after the other from a place on.
@@ -71,7 +70,7 @@ Stand s at (o ∷ os) (v ∷ vs) = (number s at (o .width) ≡ v) × Stand s (at
 
 -- as their bytes do
 pub operands-stand : {seen : Seen} {os : List Operand} {vs : List ℕ} (s q : List ℕ) (at : ℕ) → Good seen os vs → drop at s ≡ operandBytes os vs ++ q → Stand s at os vs
-operands-stand s q at nothing e = tt
+operands-stand s q at no-value e = tt
 operands-stand s q at (value {o = o} {os = os} {v = v} {vs = vs} h p g) e =
     let rest : List ℕ = operandBytes os vs ++ q in
     let e′ : drop at s ≡ bytes (o .width) v ++ rest = e ∙ append-assoc (bytes (o .width) v) (operandBytes os vs) q in (
@@ -82,22 +81,22 @@ operands-stand s q at (value {o = o} {os = os} {v = v} {vs = vs} h p g) e =
 -- and the command then does what their values do
 operands-done : {seen : Seen} {os : List Operand} {vs : List ℕ} (s : List ℕ) (at : ℕ) (does : List ℕ → Command) → Good seen os vs → Stand s at os vs
     → operandsFrom seen s at os does ≡ does (seen .before ++ vs)
-operands-done {seen} s at does nothing st = ap does (sym (append-nil (seen .before)))
+operands-done {seen} s at does no-value st = ap does (sym (append-nil (seen .before)))
 operands-done {seen} s at does (value {o = o} {v = v} {vs = vs} h p g) st =
     rw (st .0, p at) (operands-done s (at + o .width) does g (st .1) ∙ ap does (append-assoc (seen .before) (v ∷ []) vs))
 
 -- Commands.
 
 -- wherever a sheet ends in this list, reading on from there comes out so
-abbrev pub Reads : List ℕ → (stage : ℕ) → Line → Meaning → Type 0
-Reads q stage l out = (s : List ℕ) (at most : ℕ) → at ≤ length s → drop at s ≡ q → length q < most → readFrom today most s at stage l ≡ out
+abbrev pub Reads : List ℕ → (stage : ℕ) → SoFar → Meaning → Type 0
+Reads q stage x out = (s : List ℕ) (at most : ℕ) → at ≤ length s → drop at s ≡ q → length q < most → readFrom today most s at stage x ≡ out
 
 -- the place after a command
 abbrev pub next : Row → (at : ℕ) → ℕ
 next r at = at + 1 + width (r .operands)
 
-module _ (l : Line) (stage : ℕ) (r : Row) (vs q : List ℕ) (found : withCode (today .rows stage) (r .code) ≡ some r)
-    (good : Good (seenIn l (written r vs ++ q)) (r .operands) vs) where
+module _ (x : SoFar) (stage : ℕ) (r : Row) (vs q : List ℕ) (found : withCode (today .rows stage) (r .code) ≡ some r)
+    (good : Good (seenIn x (written r vs ++ q)) (r .operands) vs) where
   length-written : length (written r vs ++ q) ≡ 1 + width (r .operands) + length q
   length-written = simp length-append (omega (arith, length-operands good))
 
@@ -111,29 +110,35 @@ module _ (l : Line) (stage : ℕ) (r : Row) (vs q : List ℕ) (found : withCode 
     length-sheet : at ≤ length s → length s ≡ next r at + length q
     length-sheet h = omega (arith, stands-length s (written r vs ++ q) at h e, length-written)
 
-    command-stands : at ≤ length s → commandIn today l s at stage ≡ record { command = r .does (headerOf l) vs; next = next r at }
+    code-stands : getD s at 0 ≡ r .code
+    code-stands = byte-stands s (operandBytes (r .operands) vs ++ q) at (r .code) e
+
+    values-stand : Stand s (at + 1) (r .operands) vs
+    values-stand = operands-stand s q (at + 1) good operands-there
+
+    command-stands : at ≤ length s → commandIn today x s at stage ≡ record { command = r .does (headerOf (x .line)) vs; next = next r at }
     unfolding decoded rowAt
     command-stands h =
         let there : leb (length s) at ≡ false = lt-leb (length s) at (omega (arith, length-sheet h)) in
-        let code : getD s at 0 ≡ r .code = byte-stands s (operandBytes (r .operands) vs ++ q) at (r .code) e in
         let whole : ltb (length s) (next r at) ≡ false = le-ltb (length s) (next r at) (omega (arith, length-sheet h)) in
         let tone : addressed s at ≡ addressed (written r vs ++ q) 0 = sym (getD-drop at s 1 0) ∙ ap (λ (t : List ℕ). getD t 1 0) e in
-        rw (there, code, found, whole, tone, operands-done s (at + 1) (r .does (headerOf l)) good (operands-stand s q (at + 1) good operands-there))
+        rw (there, code-stands, found, whole, tone, operands-done s (at + 1) (r .does (headerOf (x .line))) good values-stand)
 
-  -- what comes of the rest, after the command, comes of the whole
-  pub reads-written : {stage′ : ℕ} {l′ : Line} {out : Meaning}
-      → ((s : List ℕ) (at : ℕ) → at ≤ length s → drop at s ≡ written r vs ++ q → afterCommand (r .does (headerOf l) vs) (next r at) s at stage l ≡ go (next r at) stage′ l′)
-      → Reads q stage′ l′ out → Reads (written r vs ++ q) stage l out
+  -- what comes of the bytes after the command, from what it leaves, comes of them all
+  pub reads-written : {stage′ : ℕ} {x′ : SoFar} {out : Meaning}
+      → ((s : List ℕ) (at : ℕ) → getD s at 0 ≡ r .code → next r at ≤ length s → Stand s (at + 1) (r .operands) vs
+      → afterCommand (r .does (headerOf (x .line)) vs) (next r at) s at stage x ≡ go (next r at) stage′ x′)
+      → Reads q stage′ x′ out → Reads (written r vs ++ q) stage x out
   unfolding readFrom
   reads-written goes reads s at zero h e m = absurd (omega arith)
   reads-written goes reads s at (suc most) h e m =
-      rw (command-stands s at e h, goes s at h e)
+      rw (command-stands s at e h, goes s at (code-stands s at e) (omega (arith, length-sheet s at e h)) (values-stand s at e))
       (reads s (next r at) most (omega (arith, length-sheet s at e h)) (next-stands s at e) (omega (arith, length-written)))
 
 -- the end command, at the end
-pub reads-end : (l : Line) → Reads (written end []) 3 l (accepted l)
+pub reads-end : (x : SoFar) → Reads (written end []) 3 x (accepted (x .line))
 unfolding readFrom
-reads-end l s at zero h e m = absurd (omega arith)
-reads-end l s at (suc most) h e m =
+reads-end x s at zero h e m = absurd (omega arith)
+reads-end x s at (suc most) h e m =
     let last : ltb (next end at) (length s) ≡ false = le-ltb (next end at) (length s) (omega (arith, stands-length s (written end []) at h e)) in
-    rw (command-stands l 3 end [] [] refl nothing s at e h, last)
+    rw (command-stands x 3 end [] [] refl no-value s at e h, last)

@@ -1,4 +1,4 @@
--- The tidy form of a line. Document 01, 'The line sheet'; document 02, W1 and W5.
+-- The tidy form of a line. Document 01, 'The line sheet'; document 02, W1, W5 and W6.
 -- Assumes nothing.
 use mathlib.Core.Bool.{cond}
 use mathlib.Core.List.{List, [], _∷_, _++_}
@@ -16,7 +16,7 @@ use Rattle.line.specs.declared.Kind.{Kind}
 use Rattle.line.specs.declared.Kind.the-variants.{Pair, Single, Read}
 use Rattle.line.specs.Line.{Entry, undescribed, described, Line}
 use Rattle.rows.specs.declared.Header.{Header}
-use Rattle.rows.specs.Rows.{Row, Operand, gap, tenths, budget, pair, single, levels, ratio, end}
+use Rattle.rows.specs.Rows.{Row, Operand, gap, tenths, budget, pair, single, levels, ratio, rest, end}
 use Rattle.rows.specs.Codes.{sizeRow, silenceRow}
 use Rattle.sheet.specs.Reading.{headerOf}
 
@@ -49,10 +49,14 @@ kindValues (Pair n) = n .noise ∷ n .gain ∷ n .cap ∷ n .mask ∷ []
 kindValues (Single n) = n .noise ∷ n .gain ∷ n .cap ∷ n .mask ∷ []
 kindValues (Read n) = readingBits (n .reading) ++ (n .cap ∷ n .mask ∷ [])
 
+-- W6: 'Tidying puts 0B straight after its tone and drops one whose rest is 0.'
+abbrev pub restBytes : (i rest : ℕ) → List ℕ
+restBytes i r = cond (eqb r 0) [] (written rest (i ∷ r ∷ []))
+
 -- 'the described tones in rising number'; a silenced tone stays described
 abbrev pub entryBytes : (i : ℕ) → Entry → List ℕ
 entryBytes i undescribed = []
-entryBytes i (described t) = written (kindRow (t .kind)) (i ∷ kindValues (t .kind))
+entryBytes i (described t r) = written (kindRow (t .kind)) (i ∷ kindValues (t .kind)) ++ restBytes i r
 
 unfoldable pub toneBytes : (count : ℕ) → List Entry → List ℕ
 toneBytes zero entries = []

@@ -1,18 +1,19 @@
-// The commands that describe a tone, all of whose bytes are there, from one operand to the next: document 01, 'The line sheet' and 'Why a
-// sheet is turned down', and document 02, W5.
+// The commands that describe a tone and the one that gives its rest, all of whose bytes are there, from one operand to the next: document 01,
+// 'The line sheet' and 'Why a sheet is turned down', and document 02, W5 and W6.
 ghost use mathlib.Core.List.{List, [], _∷_};
 ghost use mathlib.Core.Path.{_≡_};
 ghost use Prim.Native.Nat.{ℕ, _+_, _≤_};
 ghost use lib.ListN.{length};
-ghost use Rattle.sizes.specs.Sizes.{longestSheet, toneCommand, levelsCommand, ratioCommand};
+ghost use Rattle.sizes.specs.Sizes.{longestSheet, toneCommand, levelsCommand, ratioCommand, restCommand};
 ghost use Rattle.lists.specs.Lent.{before};
-ghost use Rattle.line.specs.Line.{Entry};
-ghost use Rattle.refusals.specs.declared.Refusal.the-variants.{FloatOutOfRange, CostOutOfRange};
+ghost use Rattle.gaps.specs.Gap.{parts};
+ghost use Rattle.line.specs.Line.{EntryInRange};
+ghost use Rattle.refusals.specs.declared.Refusal.the-variants.{FloatOutOfRange, CostOutOfRange, ToneCannotTake};
 ghost use Rattle.places.specs.Places.{entryAt};
 ghost use Rattle.rows.specs.declared.Header.{Header};
 ghost use Rattle.rows.specs.declared.Command.the-variants.{Refused};
-ghost use Rattle.rows.specs.Rows.{capAndMask, numbers, levelOperands, ratioOperands, width, describesFrom, rowAt};
-ghost use Rattle.rows.specs.Codes.{toneRow};
+ghost use Rattle.rows.specs.Rows.{Known, rest, capAndMask, numbers, levelOperands, ratioOperands, width, describesFrom, rowAt};
+ghost use Rattle.rows.specs.Codes.{knownAt, toneRow};
 use readings::Levels;
 use readings::Reading;
 use refusals::Refusal;
@@ -25,7 +26,7 @@ use sizes::PAIR_CAP;
 fn from_cap(s: &[u8], at: usize, most: u8, tone: u16) -> Command
     requires { ⌜ at + 9 ≤ length (now s) ⌝ }
     requires { ⌜ length (now s) ≤ longestSheet ⌝ }
-    ensures { λ r. ⌜ ((h : Header) → (known : Entry) → (values : List ℕ) → r ≡ describesFrom h known (tone ∷ values) (before s) at (capAndMask most)) ⌝ }
+    ensures { λ r. ⌜ ((h : Header) → (known : Known) → (values : List ℕ) → r ≡ describesFrom h known (tone ∷ values) (before s) at (capAndMask most)) ⌝ }
 {
     if most < s[at] {
         return rows::out_of_range(at);
@@ -40,7 +41,7 @@ fn from_cap(s: &[u8], at: usize, most: u8, tone: u16) -> Command
 fn from_numbers(s: &[u8], at: usize, is_single: bool, tone: u16) -> Command
     requires { ⌜ at + toneCommand ≤ length (now s) ⌝ }
     requires { ⌜ length (now s) ≤ longestSheet ⌝ }
-    ensures { λ r. ⌜ ((h : Header) → (known : Entry) → r ≡ describesFrom h known (tone ∷ []) (before s) (at + 2) (numbers «is_single»)) ⌝ }
+    ensures { λ r. ⌜ ((h : Header) → (known : Known) → r ≡ describesFrom h known (tone ∷ []) (before s) (at + 2) (numbers «is_single»)) ⌝ }
 {
     if bigendian::number_at(s, at + 2, 2) < 1 {
         return rows::out_of_range(at + 2);
@@ -72,7 +73,7 @@ fn cost_out_of_range(place: usize) -> Command
 fn from_levels(s: &[u8], at: usize, header: Header, tone: u16) -> Command
     requires { ⌜ at + levelsCommand ≤ length (now s) ⌝ }
     requires { ⌜ length (now s) ≤ longestSheet ⌝ }
-    ensures { λ r. ⌜ ((known : Entry) → r ≡ describesFrom header known (tone ∷ []) (before s) (at + 2) levelOperands) ⌝ }
+    ensures { λ r. ⌜ ((known : Known) → r ≡ describesFrom header known (tone ∷ []) (before s) (at + 2) levelOperands) ⌝ }
 {
     let noise = bigendian::number_at(s, at + 2, 4) as u32;
     if !readings::is_usable(noise) {
@@ -97,7 +98,7 @@ fn from_levels(s: &[u8], at: usize, header: Header, tone: u16) -> Command
 fn from_ratio(s: &[u8], at: usize, header: Header, tone: u16) -> Command
     requires { ⌜ at + ratioCommand ≤ length (now s) ⌝ }
     requires { ⌜ length (now s) ≤ longestSheet ⌝ }
-    ensures { λ r. ⌜ ((known : Entry) → r ≡ describesFrom header known (tone ∷ []) (before s) (at + 2) ratioOperands) ⌝ }
+    ensures { λ r. ⌜ ((known : Known) → r ≡ describesFrom header known (tone ∷ []) (before s) (at + 2) ratioOperands) ⌝ }
 {
     let bits = bigendian::number_at(s, at + 2, 4) as u32;
     if !readings::is_usable(bits) {
@@ -115,7 +116,7 @@ fn from_ratio(s: &[u8], at: usize, header: Header, tone: u16) -> Command
 pub fn tone_command(s: &[u8], at: usize, code: u8, header: Header, place: u16) -> Command
     requires { ⌜ at + 1 + width (toneRow code .operands) ≤ length (now s) ⌝ }
     requires { ⌜ length (now s) ≤ longestSheet ⌝ }
-    ensures { λ r. ⌜ r ≡ rowAt header (entryAt (before s) place) (before s) at (toneRow code) ⌝ }
+    ensures { λ r. ⌜ ((rested : ℕ) → r ≡ rowAt header (knownAt (before s) place rested) (before s) at (toneRow code)) ⌝ }
 {
     let tone = s[at + 1] as u16;
     if header.size <= tone {
@@ -129,4 +130,38 @@ pub fn tone_command(s: &[u8], at: usize, code: u8, header: Header, place: u16) -
         10 => from_ratio(s, at, header, tone),
         _ => from_numbers(s, at, code == 5, tone),
     }
+}
+
+// Refusal 14, at the place of the tone.
+fn cannot_take(place: usize) -> Command
+    requires { ⌜ place ≤ longestSheet ⌝ }
+    ensures { λ r. ⌜ r ≡ Refused (ToneCannotTake place) ⌝ }
+{
+    Command::Refused(Refusal::ToneCannotTake(place as u16))
+}
+
+// The rest command. `place` is where its tone is described already, and `rested` where that has had a rest already, or 0.
+pub fn rest_command(s: &[u8], at: usize, header: Header, place: u16, rested: u16) -> Command
+    requires { ⌜ at + restCommand ≤ length (now s) ⌝ }
+    requires { ⌜ length (now s) ≤ longestSheet ⌝ }
+    requires { ⌜ EntryInRange (parts (header .gap)) (entryAt (now s) place rested) ⌝ }
+    ensures { λ r. ⌜ r ≡ rowAt header (knownAt (before s) place rested) (before s) at rest ⌝ }
+{
+    let tone = s[at + 1] as u16;
+    if header.size <= tone {
+        return Command::Refused(Refusal::ToneBeyondLine((at + 1) as u16));
+    }
+    if place < 1 {
+        return cannot_take(at + 1);
+    }
+    if 0 < rested {
+        return cannot_take(at + 1);
+    }
+    let rest = bigendian::number_at(s, at + 2, 4) as u32;
+    let described = places::tone_at(s, place);
+    let gap = header.gap;
+    if !line::is_rest(gaps::parts(gap), described, rest) {
+        return Command::Refused(Refusal::RestOutOfRange((at + 2) as u16));
+    }
+    Command::Rest(tone)
 }

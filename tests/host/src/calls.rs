@@ -126,10 +126,10 @@ impl Call {
     pub fn refusals(self) -> &'static [u64] {
         match self {
             Call::Check | Call::LoadMost | Call::Tidy | Call::Limits => {
-                &[1, 2, 3, 4, 5, 6, 7, 8, 12, 13]
+                &[1, 2, 3, 4, 5, 6, 7, 8, 12, 13, 14, 15, 16]
             }
-            Call::LoadTarget => &[1, 2, 3, 4, 5, 6, 7, 8, 11, 12, 13],
-            Call::Refit | Call::RefitStep => &[1, 2, 3, 4, 5, 6, 7, 8, 9, 10, 12, 13],
+            Call::LoadTarget => &[1, 2, 3, 4, 5, 6, 7, 8, 11, 12, 13, 14, 15, 16],
+            Call::Refit | Call::RefitStep => &[1, 2, 3, 4, 5, 6, 7, 8, 9, 10, 12, 13, 14, 15, 16],
         }
     }
 

@@ -12,9 +12,9 @@ pub struct Which {
     pub index: u64,
 }
 
-/// How often each call gave each number, 0 to 13.
+/// How often each call gave each number, 0 to 16.
 #[derive(Default)]
-struct Tally([[u64; 14]; Call::ALL.len()]);
+struct Tally([[u64; 17]; Call::ALL.len()]);
 
 impl Tally {
     fn count(&mut self, call: Call, returned: u64) {

@@ -2,12 +2,13 @@
 
 use crate::floats;
 use crate::paper::gap::{Gap, MOST_TENTHS};
-use crate::paper::line::{LARGEST_POWER, LARGEST_SHEET};
+use crate::paper::line::{read_bytes, Given, Kind, Tone, LARGEST_POWER, LARGEST_SHEET};
 use crate::paper::reading::{Reading, LARGEST_COST};
 use crate::random::Random;
-use crate::sheets::{commands, fill, reading, silence, some_silence, tone, whole_gap, Commands};
+use crate::sheets::{commands, describes_a_tone, description, fill, largest_rest};
+use crate::sheets::{reading, rest, silence, some_silence, tone, whole_gap, Commands};
 
-pub const WAYS: usize = 20;
+pub const WAYS: usize = 23;
 
 /// A sheet damaged in one of the ways; any byte string, in some of them.
 pub fn damaged(random: &mut Random, way: usize) -> Vec<u8> {
@@ -45,6 +46,11 @@ pub fn damaged(random: &mut Random, way: usize) -> Vec<u8> {
             another_command(random, &mut commands);
             commands.concat()
         }
+        19 | 20 => {
+            rest_at_fault(random, &mut commands);
+            commands.concat()
+        }
+        21 => rests_at_budget(random, commands),
         _ => twice(random, commands),
     }
 }
@@ -61,10 +67,6 @@ fn gap(commands: &Commands) -> u64 {
         [_, tenths, ..] => Gap::Tenths(tenths.min(MOST_TENTHS)).value(),
         _ => 256,
     }
-}
-
-fn describes_a_tone(command: &[u8]) -> bool {
-    matches!(command[0], 4 | 5 | 9 | 10)
 }
 
 /// A place after 01, 02, 03 and not after the end.
@@ -95,7 +97,7 @@ fn appended(random: &mut Random, mut sheet: Vec<u8>) -> Vec<u8> {
     let count = random.pick(&[1, 1, 2, 15, 200]);
     let any = random.bytes(count);
     match random.below(3) {
-        0 => sheet.extend(vec![random.pick(&[0, 4, 6, 7, 8, 9, 10]); count]),
+        0 => sheet.extend(vec![random.pick(&[0, 4, 6, 7, 8, 9, 10, 11]); count]),
         1 => sheet.extend(sheet.clone()),
         _ => sheet.extend(any),
     }
@@ -115,7 +117,7 @@ fn out_of_order(random: &mut Random, commands: &mut Commands) {
         }
         4 => commands.insert(random.below(commands.len()), vec![7]),
         _ => {
-            let unknown = random.pick(&[0, 8, 9, 10, 11, 25, 128, 255]);
+            let unknown = random.pick(&[0, 8, 9, 10, 11, 12, 25, 128, 255]);
             commands.insert(random.below(commands.len()), vec![unknown]);
         }
     }
@@ -180,12 +182,17 @@ fn beyond(random: &mut Random, commands: &mut Commands) -> usize {
     put(random, commands, new)
 }
 
+/// The commands that describe a tone or give its rest go.
+fn forget(commands: &mut Commands, number: u8) {
+    let of_tone = |command: &[u8]| describes_a_tone(command) || command[0] == 11;
+    commands.retain(|command| !(of_tone(command) && command[1] == number));
+}
+
 /// Puts in a command. If it describes a tone, the tone's own description goes, so that
-/// it is not a repeat. Its place.
+/// it is not a repeat, and so does its rest. Its place.
 fn put(random: &mut Random, commands: &mut Commands, new: Vec<u8>) -> usize {
-    let same = |command: &[u8]| describes_a_tone(command) && command[1] == new[1];
     if describes_a_tone(&new) {
-        commands.retain(|command| !same(command));
+        forget(commands, new[1]);
     }
     let place = gap_between(random, commands);
     commands.insert(place, new);
@@ -221,6 +228,103 @@ fn reading_at_fault(random: &mut Random, commands: &mut Commands) -> usize {
     let cap = random.pick(&[0, 7, 15, 15, 16, 255]);
     let mask = random.pick(&[0, 1000, LARGEST_POWER, LARGEST_POWER, LARGEST_POWER + 1, u64::MAX]);
     put(random, commands, reading(number, read, cap, mask))
+}
+
+/// A tone of any command in the place of its own. Its number, and what was put.
+fn another_tone(random: &mut Random, commands: &mut Commands) -> (u8, Tone) {
+    let number = random.below(tones(commands)) as u8;
+    let (noise, gain) = (random.pick(&[1, 9, 300, 65_535]), 1);
+    let (whole, ratio) = (Given::Whole { noise, gain }, random.once_in(2));
+    let (kind, given) = match random.below(4) {
+        0 => (Kind::Pair, whole),
+        1 => (Kind::Single, whole),
+        _ => (Kind::Pair, Given::Read(floats::of_whole(random, ratio, noise, gain))),
+    };
+    let tone = Tone { kind, given, cap: 7, mask: LARGEST_POWER };
+    let cost = tone.cost(gap(commands));
+    let mask = random.pick(&[0, 5, cost - 1, cost, LARGEST_POWER, LARGEST_POWER]);
+    let tone = Tone { mask, ..tone };
+    put(random, commands, description(number, tone));
+    (number, tone)
+}
+
+/// A place from some command on, and not after the end.
+fn place_from(random: &mut Random, commands: &Commands, first: usize) -> usize {
+    first + random.below(commands.len() - first)
+}
+
+/// The place after a tone's command.
+fn after_tone(commands: &Commands, number: u8) -> usize {
+    let of_tone = |command: &Vec<u8>| describes_a_tone(command) && command[1] == number;
+    1 + commands.iter().position(of_tone).expect("it is described")
+}
+
+fn silence_tone(random: &mut Random, commands: &mut Commands, number: u8) {
+    let place = gap_between(random, commands);
+    commands.insert(place, silence(number / 32, 1 << (number % 32)));
+}
+
+/// A rest at an end of what its tone can have, or beyond it; or the tone is not described
+/// where it stands, or has had one. Some tones are silenced. The place of its command.
+fn rest_at_fault(random: &mut Random, commands: &mut Commands) -> usize {
+    let (number, tone) = another_tone(random, commands);
+    if random.once_in(3) {
+        silence_tone(random, commands, number);
+    }
+    let (cost, most) = (tone.cost(gap(commands)), largest_rest(&tone, gap(commands)));
+    let beyond = random.pick(&[cost, cost + 1, tone.mask + 1, 1 << 24, u32::MAX.into()]);
+    let value = random.pick(&[0, most, most + 1, cost, beyond]).min(u32::MAX.into()) as u32;
+    let next = after_tone(commands, number);
+    let place = match random.below(6) {
+        0 => 3 + random.below(next - 3),
+        1 => {
+            forget(commands, number);
+            gap_between(random, commands)
+        }
+        2 | 3 => {
+            let first = place_from(random, commands, next);
+            commands.insert(first, rest(number, random.pick(&[0, most as u32])));
+            place_from(random, commands, first + 1)
+        }
+        _ => place_from(random, commands, next),
+    };
+    commands.insert(place, rest(number, value));
+    place
+}
+
+/// Rests that add up to about the budget, by as many tones as have them and one more,
+/// which may be silenced: to as much, to more, or to more with those of silenced tones.
+fn budget_of_rests(random: &mut Random, commands: &mut Commands) {
+    let (number, tone) = another_tone(random, commands);
+    let most = largest_rest(&tone, gap(commands));
+    let next = after_tone(commands, number);
+    let place = place_from(random, commands, next);
+    commands.insert(place, rest(number, random.between(most.min(1), most) as u32));
+    if random.once_in(3) {
+        silence_tone(random, commands, number);
+    }
+    // With another fault in it there is nothing to add up.
+    let Ok(line) = read_bytes(&commands.concat()) else { return };
+    let sent = line.sum_of_rests();
+    let given: u64 = line.rests.iter().map(|rest| u64::from(*rest)).sum();
+    let one_less = sent.saturating_sub(1);
+    let any = random.between(0, given);
+    let budget = random.pick(&[sent, one_less, one_less, given.saturating_sub(1), 0, any]);
+    commands[2][1..].copy_from_slice(&budget.to_be_bytes());
+}
+
+/// Rests at about the budget, sometimes with a fault that comes before theirs.
+fn rests_at_budget(random: &mut Random, mut commands: Commands) -> Vec<u8> {
+    budget_of_rests(random, &mut commands);
+    match random.below(8) {
+        0 => appended(random, commands.concat()),
+        1 => cut(random, commands.concat()),
+        2 => {
+            not_on_line(random, &mut commands);
+            commands.concat()
+        }
+        _ => commands.concat(),
+    }
 }
 
 /// A tone's command has the byte of another that describes a tone.
@@ -268,9 +372,10 @@ fn not_on_line(random: &mut Random, commands: &mut Commands) -> usize {
     let first = tones(commands).min(255);
     let number = random.pick(&[first, first, 255]);
     let map = 1 << (number % 32) | random.pick(&[0, 1, u32::MAX]);
-    let new = match random.once_in(2) {
-        true => described(random, number as u8, true),
-        false => silence((number / 32) as u8, map),
+    let new = match random.below(5) {
+        0 => rest(number as u8, random.pick(&[0, u32::MAX])),
+        1 | 2 => described(random, number as u8, true),
+        _ => silence((number / 32) as u8, map),
     };
     let place = gap_between(random, commands);
     commands.insert(place, new);
@@ -283,7 +388,7 @@ fn any_bytes(random: &mut Random) -> Vec<u8> {
     if random.once_in(2) {
         sheet[0] = 1;
     } else if random.once_in(2) {
-        sheet.iter_mut().for_each(|byte| *byte %= 11);
+        sheet.iter_mut().for_each(|byte| *byte %= 12);
     }
     sheet
 }
@@ -304,12 +409,13 @@ fn too_long(random: &mut Random, mut commands: Commands) -> Vec<u8> {
 
 /// The sheet ends inside a command, whose operands so far may be at fault.
 fn cut_in_command(random: &mut Random, mut commands: Commands) -> Vec<u8> {
-    let place = match random.below(8) {
+    let place = match random.below(9) {
         0 | 1 => beyond(random, &mut commands),
         2 => repeated(random, &mut commands),
         3 => not_on_line(random, &mut commands),
         4 | 5 => reading_at_fault(random, &mut commands),
-        6 => random.below(3),
+        6 => rest_at_fault(random, &mut commands),
+        7 => random.below(3),
         _ => random.below(commands.len()),
     };
     let last = &commands[place];
@@ -322,13 +428,15 @@ fn cut_in_command(random: &mut Random, mut commands: Commands) -> Vec<u8> {
 fn twice(random: &mut Random, mut commands: Commands) -> Vec<u8> {
     for _ in 0..2 {
         let place = gap_between(random, &commands);
-        match random.below(7) {
+        match random.below(9) {
             0 => commands.insert(place, vec![random.pick(&[0, 1, 8])]),
             1 => commands.insert(place, some_silence(random, 256)),
             2 => commands[1] = gap_command(random),
             3 => _ = repeated(random, &mut commands),
             4 => _ = not_on_line(random, &mut commands),
             5 => _ = reading_at_fault(random, &mut commands),
+            6 => _ = rest_at_fault(random, &mut commands),
+            7 => budget_of_rests(random, &mut commands),
             _ => _ = beyond(random, &mut commands),
         }
     }
@@ -343,15 +451,22 @@ fn twice(random: &mut Random, mut commands: Commands) -> Vec<u8> {
 #[cfg(test)]
 mod tests {
     use super::*;
-    use crate::paper::line::read;
+    use crate::paper::line::{read, Line};
     use crate::paper::Refusal;
     use std::collections::BTreeMap;
+
+    /// How many bytes each command has, by its byte.
+    const WIDTHS: [usize; 12] = [0, 3, 3, 9, 15, 15, 6, 1, 2, 19, 15, 6];
+
+    fn refuse(number: u32, place: usize) -> Result<Line, Refusal> {
+        Err(Refusal { number, place })
+    }
 
     /// The place of the command that a byte belongs to; the commands before it are sound.
     fn command_of(sheet: &[u8], place: usize) -> usize {
         let mut at = 0;
         loop {
-            let next = at + [0, 3, 3, 9, 15, 15, 6, 1, 2, 19, 15][usize::from(sheet[at])];
+            let next = at + WIDTHS[usize::from(sheet[at])];
             if place < next {
                 return at;
             }
@@ -429,21 +544,120 @@ mod tests {
         }
     }
 
-    /// Sheets end before every byte of a reading.
+    /// What a refused rest shows: the refusal, and of 14 and 15 why.
+    fn shown_of_rest(sheet: &[u8], refusal: Refusal) -> Option<String> {
+        let at = command_of(sheet, refusal.place);
+        if sheet[at] != 11 {
+            return None;
+        }
+        let number = usize::from(sheet[at + 1]);
+        let rest = u32::from_be_bytes(sheet[at + 2..at + 6].try_into().expect("4 bytes"));
+        let line = read_bytes(&[&sheet[..at], &[7]].concat()).expect("it is sound up to there");
+        let name = format!("{} at byte {}", refusal.number, refusal.place - at);
+        let Some(tone) = line.described[number] else { return Some(name) };
+        let cost = tone.cost(line.gap.value());
+        let more = [
+            (refusal.number == 14 && line.rests[number] == 0, ", after one of 0"),
+            (refusal.number == 14 && line.rests[number] != 0, ", after another"),
+            (u64::from(rest) == cost, ", as large as the cost"),
+            (u64::from(rest) > cost, ", above the cost"),
+            (u64::from(rest) > tone.mask, ", above the mask"),
+            (line.is_silenced(number), ", silenced"),
+        ];
+        let more = more.into_iter().filter(|(is, _)| *is).map(|(_, more)| more);
+        Some(more.fold(name, |name, more| name + more))
+    }
+
+    const FAULTS_OF_RESTS: [&str; 14] = [
+        "5 at byte 1",
+        "14 at byte 1",
+        "14 at byte 1, after one of 0",
+        "14 at byte 1, after one of 0, as large as the cost",
+        "14 at byte 1, after one of 0, above the mask",
+        "14 at byte 1, after one of 0, silenced",
+        "14 at byte 1, after another",
+        "14 at byte 1, after another, as large as the cost",
+        "15 at byte 2, as large as the cost",
+        "15 at byte 2, as large as the cost, silenced",
+        "15 at byte 2, above the cost",
+        "15 at byte 2, above the mask",
+        "15 at byte 2, above the mask, silenced",
+        "15 at byte 2, above the cost, above the mask",
+    ];
+
+    /// Rests are refused in every way.
     #[test]
-    fn cut_inside_readings() {
+    fn every_fault_of_a_rest() {
+        let mut counts = BTreeMap::new();
+        for index in 0..16_000 {
+            let sheet = damaged(&mut Random::new(1, index), index as usize % WAYS);
+            match read_bytes(&sheet) {
+                Err(refusal) if matches!(refusal.number, 5 | 14 | 15) => {
+                    let shown = shown_of_rest(&sheet, refusal);
+                    *counts.entry(shown.unwrap_or_default()).or_insert(0) += 1;
+                }
+                _ => {}
+            }
+        }
+        for due in FAULTS_OF_RESTS {
+            assert!(counts.get(due).is_some_and(|&count| count > 5), "{due}: {counts:#?}");
+        }
+    }
+
+    /// Whether a sheet that is accepted has more rests, up to some command, than budget.
+    fn saved_by_a_silence(sheet: &[u8]) -> bool {
+        let mut at = 0;
+        while sheet[at] != 7 {
+            at += WIDTHS[usize::from(sheet[at])];
+            if read(&[&sheet[..at], &[7]].concat()) == refuse(16, 0) {
+                return true;
+            }
+        }
+        false
+    }
+
+    /// Rests are at the budget, one over it, over it until a silence comes, over it with
+    /// those of silenced tones; and over it in sheets that bytes follow.
+    #[test]
+    fn every_budget_of_rests() {
+        let mut counts = [0; 5];
+        for index in 0..16_000 {
+            let sheet = damaged(&mut Random::new(1, index), index as usize % WAYS);
+            match read_bytes(&sheet) {
+                Ok(line) => {
+                    let given = line.rests.iter().map(|rest| u64::from(*rest));
+                    let (given, sent) = (given.sum::<u64>(), line.sum_of_rests());
+                    counts[0] += u32::from(sent > 0 && sent == line.budget);
+                    counts[1] += u32::from(sent == line.budget + 1);
+                    counts[2] += u32::from(sent <= line.budget && saved_by_a_silence(&sheet));
+                    counts[3] += u32::from(sent <= line.budget && given > line.budget);
+                }
+                Err(Refusal { number: 7, place }) => {
+                    counts[4] += u32::from(read(&sheet[..place]) == refuse(16, 0));
+                }
+                _ => {}
+            }
+        }
+        assert!(counts.iter().all(|&count| count > 20), "{counts:?}");
+    }
+
+    /// Sheets end before every byte of a reading, and of a rest.
+    #[test]
+    fn cut_inside_readings_and_rests() {
         let mut lengths = BTreeMap::new();
         for index in 0..16_000 {
             let mut random = Random::new(1, index);
             let commands = commands(&mut random);
             let sheet = cut_in_command(&mut random, commands);
-            if sheet.is_empty() || read(&sheet) != Err(Refusal { number: 2, place: sheet.len() }) {
+            if sheet.is_empty() || read(&sheet) != refuse(2, sheet.len()) {
                 continue;
             }
             let at = command_of(&sheet, sheet.len() - 1);
             *lengths.entry((sheet[at], sheet.len() - at)).or_insert(0) += 1;
         }
-        for due in (1..19).map(|length| (9, length)).chain((1..15).map(|length| (10, length))) {
+        let all =
+            |command: u8| (1..WIDTHS[usize::from(command)]).map(move |length| (command, length));
+        for due in [9, 10, 11].into_iter().flat_map(all) {
             assert!(lengths.get(&due).is_some_and(|&count| count > 5), "{due:?}: {lengths:?}");
         }
     }

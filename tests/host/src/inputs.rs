@@ -1,14 +1,14 @@
 //! What a call is given: sheet, starting table, target and buffer lengths, all
 //! from a seed and an index. Seed 0 is the sample sheet of document 01, then one with
-//! its gap in tenths of a decibel, and one with readings, each with one byte changed, cut
-//! off or added, in every way; other seeds are random.
+//! its gap in tenths of a decibel, one with readings, and one with rests, each with one
+//! byte changed, cut off or added, in every way; other seeds are random.
 
 use crate::damage::{damaged, WAYS};
-use crate::paper::line::{read, Line};
+use crate::paper::line::{read_bytes, Line};
 use crate::paper::run::Running;
 use crate::paper::{tidy_length, ANSWER_BYTES, BYTES_A_LIMIT, BYTES_A_TONE};
 use crate::random::Random;
-use crate::sheets::{commands, IN_TENTHS, READINGS, SAMPLE};
+use crate::sheets::{commands, IN_TENTHS, READINGS, RESTS, SAMPLE};
 
 #[derive(Clone)]
 pub struct Input {
@@ -22,6 +22,21 @@ pub struct Input {
     pub limits: Vec<u8>,
 }
 
+/// A sheet of seed 0, and what its calls are given with it.
+struct Sample {
+    sheet: &'static [u8],
+    start: [u8; 3],
+    target: u32,
+}
+
+const SAMPLES: [Sample; 4] = [
+    Sample { sheet: &SAMPLE, start: [0, 2, 3], target: 6 },
+    Sample { sheet: &IN_TENTHS, start: [0, 2, 3], target: 6 },
+    Sample { sheet: &READINGS, start: [0, 2, 3], target: 6 },
+    // Both leave tone 1 at no bits: the re-fit by its first step.
+    Sample { sheet: &RESTS, start: [0, 1, 0], target: 3 },
+];
+
 /// How many inputs a sheet of seed 0 makes: each byte at each value, each cut, each
 /// byte added.
 const fn changes(sheet: &[u8]) -> usize {
@@ -29,7 +44,8 @@ const fn changes(sheet: &[u8]) -> usize {
 }
 
 /// How many inputs seed 0 has.
-pub const SAMPLE_INPUTS: u64 = (changes(&SAMPLE) + changes(&IN_TENTHS) + changes(&READINGS)) as u64;
+pub const SAMPLE_INPUTS: u64 =
+    (changes(&SAMPLE) + changes(&IN_TENTHS) + changes(&READINGS) + changes(&RESTS)) as u64;
 
 pub fn input(seed: u64, index: u64) -> Input {
     let mut random = Random::new(seed, index);
@@ -37,7 +53,8 @@ pub fn input(seed: u64, index: u64) -> Input {
         return sample_input(&mut random, index as usize);
     }
     let sheet = sheet(&mut random, index);
-    match read(&sheet) {
+    // Where 16 refuses the sheet, what 8 to 11 would say of the line is at hand too.
+    match read_bytes(&sheet) {
         Ok(line) => input_for(&mut random, sheet, &line),
         Err(_) => input_for_refused(&mut random, sheet),
     }
@@ -63,21 +80,18 @@ fn changed(sheet: &[u8], index: usize) -> Vec<u8> {
     sheet
 }
 
-/// The sheet of an index of seed 0.
-fn sample_sheet(index: usize) -> Vec<u8> {
-    let (first, second) = (changes(&SAMPLE), changes(&IN_TENTHS));
-    match index {
-        _ if index < first => changed(&SAMPLE, index),
-        _ if index < first + second => changed(&IN_TENTHS, index - first),
-        _ => changed(&READINGS, index - first - second),
+/// The input of an index of seed 0.
+fn sample_input(random: &mut Random, mut index: usize) -> Input {
+    let mut samples = SAMPLES.iter();
+    let mut sample = samples.next().expect("a sample");
+    while index >= changes(sample.sheet) {
+        index -= changes(sample.sheet);
+        sample = samples.next().expect("an index of seed 0");
     }
-}
-
-fn sample_input(random: &mut Random, index: usize) -> Input {
     Input {
-        sheet: sample_sheet(index),
-        start: vec![0, 2, 3],
-        target: 6,
+        sheet: changed(sample.sheet, index),
+        start: sample.start.to_vec(),
+        target: sample.target,
         table: random.bytes(256 * BYTES_A_TONE),
         tidy: random.bytes(READINGS.len() + 3),
         answer: random.bytes(ANSWER_BYTES + 8),
@@ -195,5 +209,41 @@ fn start_within(random: &mut Random, limits: &[u8], loaded: &[u8]) -> Vec<u8> {
         }
         5 => limits.iter().map(|&limit| random.between(0, u64::from(limit.min(2))) as u8).collect(),
         _ => limits.iter().map(|&limit| random.between(0, u64::from(limit)) as u8).collect(),
+    }
+}
+
+#[cfg(test)]
+mod tests {
+    use super::*;
+
+    /// Where 16 refuses a sheet, there are inputs of which no other refusal could be given,
+    /// and ones for each of 8 to 11.
+    #[test]
+    fn rests_over_the_budget_and_other_faults() {
+        let mut counts = [0; 5];
+        for index in 0..20_000 {
+            let input = input(1, index);
+            let Ok(line) = read_bytes(&input.sheet) else { continue };
+            if line.sum_of_rests() <= line.budget {
+                continue;
+            }
+            let run = Running::nothing(&line);
+            let above = |(bits, limit): (&u8, &u8)| bits > limit;
+            let short = input.table.len() < BYTES_A_TONE * line.tones
+                || input.answer.len() < ANSWER_BYTES
+                || input.tidy.len() < tidy_length(&line)
+                || input.limits.len() < BYTES_A_LIMIT * line.tones;
+            let faults = [
+                short,
+                input.start.len() != line.tones,
+                input.start.len() == line.tones && input.start.iter().zip(&run.limit).any(above),
+                input.target > 0,
+            ];
+            counts[0] += u32::from(faults == [false; 4]);
+            for (count, fault) in counts[1..].iter_mut().zip(faults) {
+                *count += u32::from(fault);
+            }
+        }
+        assert!(counts.iter().all(|&count| count > 5), "{counts:?}");
     }
 }

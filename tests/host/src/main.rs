@@ -23,7 +23,7 @@ use std::path::Path;
 use std::process::ExitCode;
 
 const SEED: u64 = 1;
-const COUNT: u64 = 40_000;
+const COUNT: u64 = 41_000;
 
 fn number(word: &str) -> Result<u64, String> {
     word.parse().map_err(|_| format!("'{word}' is not a number"))

@@ -1,5 +1,5 @@
-//! An independent loader, written from document 01 and document 02's requests W1, W3
-//! and W5: the six calls as the C host makes them, the limits by its conventions, and
+//! An independent loader, written from document 01 and document 02's requests W1, W3,
+//! W5 and W6: the six calls as the C host makes them, the limits by its conventions, and
 //! what the bench program prints. It keeps each tone's next free and last held step;
 //! each move scans all of them for the earliest free and the latest held.
 
@@ -11,7 +11,7 @@ pub mod run;
 mod sample;
 
 use gap::Gap;
-use line::{read, Given, Kind, Line, Tone};
+use line::{read, Given, Kind, Line, Tone, REST_BYTES};
 use reading::Reading;
 use run::Running;
 
@@ -161,6 +161,13 @@ impl Tidy<'_> {
         self.put(&tone.mask.to_be_bytes());
     }
 
+    fn put_rest(&mut self, number: usize, rest: u32) {
+        if rest != 0 {
+            self.put(&[11, number as u8]);
+            self.put(&rest.to_be_bytes());
+        }
+    }
+
     fn put_line(&mut self, line: &Line) {
         self.put(&[1]);
         self.put(&(line.tones as u16).to_be_bytes());
@@ -170,6 +177,7 @@ impl Tidy<'_> {
         for (number, tone) in line.described.iter().enumerate() {
             if let Some(tone) = tone {
                 self.put_tone(number, tone);
+                self.put_rest(number, line.rests[number]);
             }
         }
         for (word, map) in line.silenced.iter().enumerate() {
@@ -185,7 +193,8 @@ impl Tidy<'_> {
 pub fn tidy_length(line: &Line) -> usize {
     let words = line.silenced.iter().filter(|map| **map != 0).count();
     let tones: usize = line.described.iter().flatten().map(Tone::length).sum();
-    3 + line.gap.length() + 9 + tones + 6 * words + 1
+    let rests = line.rests.iter().filter(|rest| **rest != 0).count();
+    3 + line.gap.length() + 9 + tones + REST_BYTES * rests + 6 * words + 1
 }
 
 pub fn tidy(sheet: &[u8], tidy: &mut [u8], answer: &mut [u8]) -> u64 {

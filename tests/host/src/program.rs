@@ -7,7 +7,7 @@ use crate::paper::line::LARGEST_SHEET;
 use crate::paper::printed;
 use crate::paper::reading::Reading;
 use crate::random::Random;
-use crate::sheets::{bare, reading, silence, IN_TENTHS, READINGS, SAMPLE};
+use crate::sheets::{bare, reading, rest, silence, tone, IN_TENTHS, READINGS, RESTS, SAMPLE};
 use std::io::{ErrorKind, Write};
 use std::path::{Path, PathBuf};
 use std::process::{Command, Stdio};
@@ -17,10 +17,10 @@ use std::time::Duration;
 pub const SHEETS: u64 = 600;
 const SEED: u64 = 2;
 /// The examples that there must be.
-const EXAMPLES: [&str; 6] =
-    ["analyser", "long_cable", "refused", "sample", "short_cable", "spliced_pair"];
+const EXAMPLES: [&str; 7] =
+    ["analyser", "long_cable", "refused", "sample", "short_cable", "spliced_pair", "tracked_tones"];
 /// Sheets that any comparison should have, before the random ones.
-const FIXED: u64 = 18;
+const FIXED: u64 = 23;
 
 /// A sheet as long as one that is accepted can be: 4,096 bytes, or 4,095 where the
 /// gap is in tenths.
@@ -60,6 +60,27 @@ fn full_of(read: Reading) -> Vec<u8> {
     commands.concat()
 }
 
+/// The sheet of rests, with another budget.
+fn at_budget(budget: u64) -> Vec<u8> {
+    let mut sheet = RESTS.to_vec();
+    sheet[7..15].copy_from_slice(&budget.to_be_bytes());
+    sheet
+}
+
+/// A line on which each tone costs 5 and has a rest of 2, for as many tones as fit.
+fn full_of_rests() -> Vec<u8> {
+    let mut commands = bare(256, Gap::Whole(256), 1_000);
+    let mut length = commands.concat().len();
+    for number in 0..=255 {
+        let with_rest = [tone(false, number, 5, 1, 15, 100), rest(number, 2)].concat();
+        length += with_rest.len();
+        if length <= LARGEST_SHEET {
+            commands.insert(commands.len() - 1, with_rest);
+        }
+    }
+    commands.concat()
+}
+
 fn sheet(index: u64) -> Vec<u8> {
     let long = longest(Gap::Whole(256));
     match index {
@@ -81,6 +102,12 @@ fn sheet(index: u64) -> Vec<u8> {
         15 => with_ratio(f32::MAX),
         16 => full_of(Reading::NoiseAndGain(3.0_f32.to_bits(), 2.0_f32.to_bits())),
         17 => full_of(Reading::Ratio(1)),
+        18 => RESTS.to_vec(),
+        // Its rests add up to 66,061, and the first step is 23.
+        19 => at_budget(66_060),
+        20 => at_budget(66_061),
+        21 => at_budget(66_061 + 23),
+        22 => full_of_rests(),
         FIXED.. => inputs::sheet(&mut Random::new(SEED, index), index),
     }
 }

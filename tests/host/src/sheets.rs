@@ -38,6 +38,16 @@ pub const READINGS: [u8; 65] = [
     5, 2, 0xff, 0xff, 0, 1, 7, 0, 0, 1, 0, 0, 0, 0, 0, 7,
 ];
 
+/// A sheet with rests, of which that of the ratio's tone takes three bytes, and with a
+/// silence that names no tone. Its tones, and then their rests, come in falling order.
+/// The budget carries two bits on tone 1 and three on tone 2.
+pub const RESTS: [u8; 64] = [
+    1, 0, 3, 2, 1, 44, 3, 0, 0, 0, 0, 0, 4, 0, 0, //
+    5, 2, 0, 9, 0, 1, 7, 0, 0, 0, 0, 0, 0, 3, 0, //
+    10, 1, 0x47, 0x7f, 0xff, 0, 15, 0, 0, 0, 0, 0, 0x10, 0, 0, //
+    11, 2, 0, 0, 0, 10, 11, 1, 0, 1, 2, 3, 6, 0, 0, 0, 0, 0, 7,
+];
+
 /// How the tones of one line compare.
 #[derive(Clone, Copy)]
 enum Likeness {
@@ -64,13 +74,17 @@ struct Plan {
     ratios: usize,
     tight_caps: bool,
     tight_masks: bool,
+    /// How many tones in four have a rest, and the size that rests give to first steps,
+    /// where they can.
+    rests: usize,
+    first_step: u64,
 }
 
 fn tones(random: &mut Random) -> usize {
     let (low, high) = match random.below(8) {
         0 => return 1,
         1 => return random.pick(&[31, 32, 33, 63, 64, 65]),
-        2 => return random.pick(&[213, 214, 215, 224, 225, 255, 256, 256]),
+        2 => return random.pick(&[163, 194, 213, 214, 215, 224, 225, 255, 256, 256, 256, 256]),
         3 => (65, 256),
         4 => (17, 64),
         5 => (2, 4),
@@ -96,6 +110,7 @@ impl Plan {
     fn new(random: &mut Random, tones: usize) -> Plan {
         use Likeness::*;
         let likeness = random.pick(&[Equal, Ties, Ties, Cable, Edges, Any]);
+        let small = random.pick(&[1, 1, 2, 3, 4, 6]);
         Plan {
             tones,
             gap: some_gap(random, matches!(likeness, Ties)),
@@ -106,6 +121,11 @@ impl Plan {
             ratios: random.pick(&[0, 2, 4]),
             tight_caps: random.once_in(3),
             tight_masks: random.once_in(2),
+            rests: random.pick(&[0, 0, 0, 1, 2, 4, 4]),
+            first_step: match likeness {
+                Ties => small,
+                _ => random.sized(LARGEST_COST).max(1),
+            },
         }
     }
 
@@ -127,6 +147,8 @@ impl Plan {
     fn mask(&self, random: &mut Random, kind: Kind, cost: u64, most: u8) -> u64 {
         let edge = power(kind, cost, random.between(0, u64::from(most)) as u8);
         match random.below(if self.tight_masks { 8 } else { 40 }) {
+            // No bits, but a rest.
+            0 if self.rests > 0 => random.between(0, cost - 1),
             0 => 0,
             1 | 2 => edge,
             3 => edge.saturating_sub(1),
@@ -155,7 +177,7 @@ impl Plan {
         }
     }
 
-    fn tone(&self, random: &mut Random, number: usize) -> Vec<u8> {
+    fn tone(&self, random: &mut Random, number: usize) -> Tone {
         let (noise, gain) = self.noise_and_gain(random, number);
         let single = random.below(4) < self.singles;
         let (kind, given) = match random.below(4) < self.readings {
@@ -172,12 +194,32 @@ impl Plan {
         };
         let tone = Tone { kind, given, cap, mask: 0 };
         let mask = self.mask(random, kind, tone.cost(self.gap.value()), most);
-        description(number as u8, Tone { mask, ..tone })
+        Tone { mask, ..tone }
+    }
+
+    /// A rest that a tone can have: at an end, with the line's first step, or any.
+    fn rest(&self, random: &mut Random, tone: &Tone) -> u32 {
+        let gap = self.gap.value();
+        let most = largest_rest(tone, gap);
+        let one_bit = power(tone.kind, tone.cost(gap), 1);
+        let rest = match random.below(8) {
+            0 => 0,
+            1 => 1,
+            2 | 3 => most,
+            4..=6 => one_bit.saturating_sub(self.first_step),
+            _ => random.between(0, most),
+        };
+        rest.min(most) as u32
     }
 }
 
+/// The largest rest that a tone can have at a gap.
+pub fn largest_rest(tone: &Tone, gap: u64) -> u64 {
+    (tone.cost(gap) - 1).min(tone.mask)
+}
+
 /// The command that describes a tone, as it stands in a sheet.
-fn description(number: u8, Tone { kind, given, cap, mask }: Tone) -> Vec<u8> {
+pub fn description(number: u8, Tone { kind, given, cap, mask }: Tone) -> Vec<u8> {
     match given {
         Given::Whole { noise, gain } => tone(kind == Kind::Single, number, noise, gain, cap, mask),
         Given::Read(read) => reading(number, read, cap, mask),
@@ -203,6 +245,16 @@ pub fn tone(single: bool, number: u8, noise: u16, gain: u16, cap: u8, mask: u64)
     bytes.extend(gain.to_be_bytes());
     bytes.push(cap);
     bytes.extend(mask.to_be_bytes());
+    bytes
+}
+
+pub fn describes_a_tone(command: &[u8]) -> bool {
+    matches!(command[0], 4 | 5 | 9 | 10)
+}
+
+pub fn rest(number: u8, rest: u32) -> Vec<u8> {
+    let mut bytes = vec![11, number];
+    bytes.extend(rest.to_be_bytes());
     bytes
 }
 
@@ -264,13 +316,18 @@ fn described(random: &mut Random, tones: usize) -> Vec<usize> {
     numbers
 }
 
-/// A budget: at an end, exactly at what some table needs or next to it, or any.
+/// A budget: at an end, exactly at what some table needs or next to it, or any; but never
+/// under the rests.
 fn budget(random: &mut Random, commands: &Commands) -> u64 {
     let mut run = Running::nothing(&read(&commands.concat()).expect("a valid sheet"));
     let full: Vec<u8> = run.limit[..run.tones].to_vec();
     let bits: usize = full.iter().map(|bits| usize::from(*bits)).sum();
-    let full_power = (0..run.tones).map(|t| power(run.kind[t], run.cost[t], full[t])).sum();
-    match random.below(10) {
+    let full_power = (0..run.tones).map(|tone| run.power_at(tone, full[tone])).sum();
+    let rests = run.total_power;
+    if rests > 0 && random.once_in(6) {
+        return rests + random.pick(&[0, 0, 1, 3]);
+    }
+    let budget = match random.below(10) {
         0 => random.pick(&[0, 0, 1, LARGEST_POWER]),
         1 => random.between(1, 12),
         2 => random.sized(LARGEST_POWER),
@@ -285,21 +342,41 @@ fn budget(random: &mut Random, commands: &Commands) -> u64 {
             }
             (run.total_power + 8).saturating_sub(kind as u64)
         }
+    };
+    budget.max(rests)
+}
+
+/// Puts in rests, each anywhere after its tone's command, or all straight after it.
+fn put_rests(random: &mut Random, commands: &mut Commands, rests: Commands) {
+    let straight = random.once_in(3);
+    for rest in rests {
+        let of_tone = |command: &Vec<u8>| describes_a_tone(command) && command[1] == rest[1];
+        let next = 1 + commands.iter().position(of_tone).expect("its tone is described");
+        let any = random.between(next as u64, commands.len() as u64 - 1) as usize;
+        commands.insert(if straight { next } else { any }, rest);
     }
 }
 
-/// The tones that do not fit, of the longer readings, are not described.
+/// The tones that do not fit, of the longer readings or with their rests, are not
+/// described.
 fn commands_of(random: &mut Random, tones: usize) -> Commands {
     let plan = Plan::new(random, tones);
     let mut commands = bare(tones, plan.gap, LARGEST_POWER);
     let mut left = LARGEST_SHEET - commands.concat().len();
+    let mut rests = Vec::new();
     for number in described(random, tones) {
         let tone = plan.tone(random, number);
-        if tone.len() <= left {
-            left -= tone.len();
+        let rested = random.below(4) < plan.rests;
+        let rest = rest(number as u8, plan.rest(random, &tone));
+        let tone = description(number as u8, tone);
+        let length = tone.len() + if rested { rest.len() } else { 0 };
+        if length <= left {
+            left -= length;
             commands.insert(commands.len() - 1, tone);
+            rests.extend(rested.then_some(rest));
         }
     }
+    put_rests(random, &mut commands, rests);
     for _ in 0..random.pick(&[0, 0, 1, 2, 12]) {
         let place = 3 + random.below(commands.len() - 3);
         let silence = some_silence(random, tones);
@@ -345,6 +422,8 @@ pub fn small(seed: u64, index: u64) -> Vec<u8> {
 #[cfg(test)]
 mod tests {
     use super::*;
+    use crate::paper::line::Line;
+    use std::collections::BTreeMap;
 
     /// Of the sheets that are made, each command that gives the gap has a good share.
     #[test]
@@ -359,7 +438,7 @@ mod tests {
     #[test]
     fn tones_of_every_command() {
         let (mut tones, mut lines) = ([0; 11], [0; 11]);
-        for index in 0..4_000 {
+        for index in 0..12_000 {
             let commands = commands(&mut Random::new(1, index));
             let count = |command| commands.iter().filter(|bytes| bytes[0] == command).count();
             for command in [4, 5, 9, 10] {
@@ -372,6 +451,94 @@ mod tests {
         let share = |command: usize| 8 * tones[command] > all;
         assert!([4, 5, 9, 10].into_iter().all(share), "tones by command: {tones:?}");
         assert!(lines[9] >= 5 && lines[10] >= 5, "full lines by command: {lines:?}");
+    }
+
+    /// What is to be seen of a tone's rest that is not 0.
+    fn sorts_of_rest(line: &Line, number: usize, tone: &Tone) -> [(&'static str, bool); 7] {
+        let (rest, cost) = (u64::from(line.rests[number]), tone.cost(line.gap.value()));
+        let command = match (tone.given, tone.kind) {
+            (Given::Whole { .. }, Kind::Pair) => "by 04",
+            (Given::Whole { .. }, Kind::Single) => "by 05",
+            (Given::Read(Reading::NoiseAndGain(..)), _) => "by 09",
+            (Given::Read(Reading::Ratio(_)), _) => "by 0A",
+        };
+        [
+            (command, true),
+            ("of 1", rest == 1),
+            ("one below the cost", rest == cost - 1),
+            ("at a mask below that", rest == tone.mask && rest < cost - 1),
+            ("of three bytes", rest >= 1 << 16),
+            ("of a silenced tone", line.is_silenced(number)),
+            ("of a tone with limit 0", line.rest(number) > 0 && line.limit(number).0 == 0),
+        ]
+    }
+
+    /// What is to be seen of a sheet's rests.
+    fn sorts_of_sheet(line: &Line, commands: &Commands) -> [(&'static str, bool); 5] {
+        let count = |byte| commands.iter().filter(|command| command[0] == byte).count();
+        let (sum, budget) = (line.sum_of_rests(), line.budget);
+        [
+            ("of 0", commands.iter().any(|command| command[0] == 11 && command[2..] == [0; 4])),
+            ("on 194 tones", count(11) == 194),
+            ("on 163 tones of 09", count(11) == 163 && count(9) == 163),
+            ("as large as the budget", sum > 0 && sum == budget),
+            ("one below the budget", sum > 0 && sum + 1 == budget),
+        ]
+    }
+
+    /// Rests at both ends, of tones by each command, silenced or with no bits; budgets at
+    /// their sum; and sheets as full of them as they can be.
+    #[test]
+    fn rests_of_every_sort() {
+        let mut counts = BTreeMap::new();
+        let mut count = |sorts: &[(&'static str, bool)]| {
+            for &(sort, is) in sorts {
+                *counts.entry(sort).or_insert(0) += u32::from(is);
+            }
+        };
+        for index in 0..12_000 {
+            let commands = commands(&mut Random::new(1, index));
+            let line = read(&commands.concat()).expect("a valid sheet");
+            count(&sorts_of_sheet(&line, &commands));
+            for (number, tone) in line.described.iter().enumerate() {
+                match tone {
+                    Some(tone) if line.rests[number] > 0 => {
+                        count(&sorts_of_rest(&line, number, tone));
+                    }
+                    _ => {}
+                }
+            }
+        }
+        let all = counts.len() == 15 && counts.values().all(|&count| count > 5);
+        assert!(all, "rests: {counts:#?}");
+    }
+
+    /// Rests make first steps equal to each other and to later steps, so that the tone
+    /// decides; and on some lines the budget ends a loading between two of them.
+    #[test]
+    fn ties_made_by_rests() {
+        let (mut first, mut later, mut ended) = (0, 0, 0);
+        for index in 0..4_000 {
+            let line = read(&commands(&mut Random::new(1, index)).concat()).expect("a valid sheet");
+            let mut run = Running::nothing(&line);
+            // The size of the last step, whether it was a tone's first, and with a rest.
+            let mut last = (0, false, false);
+            while let Some((size, tone)) = run.earliest_free() {
+                let is_first = run.bits[tone] == 0;
+                let step = (size, is_first, is_first && line.rest(tone) > 0);
+                if step.0 == last.0 && (step.2 || last.2) {
+                    let both_first = step.1 && last.1;
+                    *(if both_first { &mut first } else { &mut later }) += 1;
+                    ended += u32::from(run.total_power + size > run.budget);
+                }
+                last = step;
+                if !run.add() {
+                    break;
+                }
+            }
+        }
+        let said = format!("{first} first steps, {later} later ones, {ended} at an end");
+        assert!(first > 1_000 && later > 300 && ended > 20, "{said}");
     }
 
     /// The costs of readings are of every size.

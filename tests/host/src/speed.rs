@@ -4,11 +4,11 @@
 use crate::calls::{self, Buffer, Call};
 use crate::inputs::Input;
 use crate::paper::gap::Gap;
-use crate::paper::line::{read, Line, LARGEST_POWER};
+use crate::paper::line::{cost, read, Line, LARGEST_POWER};
 use crate::paper::reading::Reading;
 use crate::paper::run::Running;
 use crate::paper::{ANSWER_BYTES, BYTES_A_LIMIT, BYTES_A_TONE};
-use crate::sheets::{bare, reading, silence, tone};
+use crate::sheets::{bare, reading, rest, silence, tone};
 use crate::stack;
 use std::hint::black_box;
 use std::time::{Duration, Instant};
@@ -19,8 +19,9 @@ const ROUNDS: usize = 41;
 const ROUND: Duration = Duration::from_millis(1);
 /// How many tones the lines have.
 const TONES: [usize; 3] = [16, 64, 256];
-/// As many tones of 09 as a sheet has room for.
+/// As many tones of 09 as a sheet has room for, and as many of 15 bytes with a rest each.
 const MOST_OF_09: usize = 214;
+const MOST_WITH_RESTS: usize = 194;
 
 /// How the tones of a line are given.
 #[derive(Clone, Copy, PartialEq, Eq)]
@@ -42,6 +43,8 @@ struct Shape {
     ties: bool,
     gap: Gap,
     by: By,
+    /// Whether each tone has a rest.
+    rests: bool,
 }
 
 /// 12 dB.
@@ -50,9 +53,9 @@ const NO_GAP: Gap = Gap::Whole(256);
 
 /// The first: the others are like it, but for what they name.
 const BOUND: Shape =
-    Shape { name: "bound", bound: true, ties: false, gap: CABLE_GAP, by: By::Whole };
+    Shape { name: "bound", bound: true, ties: false, gap: CABLE_GAP, by: By::Whole, rests: false };
 
-const SHAPES: [Shape; 7] = [
+const SHAPES: [Shape; 9] = [
     BOUND,
     Shape { name: "bound, tenths", gap: Gap::Tenths(120), ..BOUND },
     Shape { name: "unbound", bound: false, ..BOUND },
@@ -60,6 +63,8 @@ const SHAPES: [Shape; 7] = [
     Shape { name: "unbound, ties", bound: false, ties: true, gap: NO_GAP, ..BOUND },
     Shape { name: "bound, floats", by: By::Floats, ..BOUND },
     Shape { name: "bound, ratios", by: By::Ratio, ..BOUND },
+    Shape { name: "bound, rests", rests: true, ..BOUND },
+    Shape { name: "bound, ties, rests", ties: true, gap: NO_GAP, rests: true, ..BOUND },
 ];
 
 /// Each line of each number of tones, or of as many as it can have.
@@ -72,6 +77,7 @@ impl Shape {
     fn most(self, tones: usize) -> usize {
         match self.by {
             By::Floats => tones.min(MOST_OF_09),
+            _ if self.rests => tones.min(MOST_WITH_RESTS),
             _ => tones,
         }
     }
@@ -87,6 +93,11 @@ impl Shape {
             };
             let tone = self.tone(tones, number, noise as u16, gain as u16);
             commands.insert(commands.len() - 1, tone);
+            if self.rests {
+                // Half the cost: on the best tones of a cable, which cost 1, it is 0.
+                let cost = cost(self.gap.value(), noise as u16, gain as u16);
+                commands.insert(commands.len() - 1, rest(number as u8, cost as u32 / 2));
+            }
         }
         commands.insert(commands.len() - 1, silence(0, 1 << 5 | 1 << 9));
         if self.bound {
@@ -222,11 +233,11 @@ fn parts_of_the_limits(tones: usize) -> String {
 /// One row for each line and call; times in microseconds, stack in bytes.
 pub fn table() -> String {
     let mut table =
-        "tones line          call          ours us  paper us   ratio   stack\n".to_string();
+        "tones line                call          ours us  paper us   ratio   stack\n".to_string();
     for (tones, shape) in lines() {
         let input = shape.input(tones);
         for call in Call::ALL {
-            table += &format!("{tones:>5} {:<14}{}\n", shape.name, row(call, &input));
+            table += &format!("{tones:>5} {:<20}{}\n", shape.name, row(call, &input));
         }
     }
     table += "\nours us of one re-fit step, bound\n";

@@ -7,19 +7,15 @@ use Rattle.arrays.proofs.read_tones.Statement.{statement}
 use Rattle.arrays.proofs.read_tones.Tie as tie
 
 fill-arrays-requires : tie.Need-fill-arrays-requires
-fill-arrays-requires c κs =
-    let k = c .before .before .before .before .before .before .before in
-    indexed (k .before .before .read-sheet .ensures) (k .read2 .given .1)
+fill-arrays-requires c κs = indexed (c .before .before .before .before .before .before .before .before .before .before .read-sheet .ensures) (c .before .before .before .before .before .before .before .before .read2 .given .1)
 
 returns : tie.Need-returns
 returns c =
-    let a = c .before .before .before .before .before .before .before .args in
+    let a = c .before .before .before .before .before .before .before .before .args in
     tones-refused (arrays (a .limits .now) (a .costs .now) (a .doublings .now) (a .rests .now)) (refused-is (c .before .before .before .read-sheet .ensures) (c .before .read .given .1))
 
 returns-2 : tie.Need-returns-2
-returns-2 c =
-    let k = c .before .before .before .before .before .before .before .before in
-    tones-held _ _ (indexed (k .before .before .read-sheet .ensures) (k .read2 .given .1)) (c .fill-arrays .ensures)
+returns-2 c = tones-held _ _ (indexed (c .before .before .before .before .before .before .before .before .before .before .before .read-sheet .ensures) (c .before .before .before .before .before .before .before .before .before .read2 .given .1)) (c .fill-arrays .ensures)
 
 pub read-tones-spec : {M : Type 1} → statement M
 read-tones-spec =

@@ -2,7 +2,7 @@
 use mathlib.Core.Path.{sym}
 use native.Mathlib.Omega.{arith}
 use borrow.Author.Tests.{ne-eqb}
-use Rattle.command.proofs.Rows.{one-row, some-late, reading-late, none-late}
+use Rattle.command.proofs.Rows.{one-row, some-late, added-late, none-late}
 use Rattle.command.proofs.is_allowed.Statement.{statement}
 use Rattle.command.proofs.is_allowed.Tie as tie
 
@@ -22,16 +22,16 @@ returns-5 : tie.Need-returns-5
 returns-5 c = let a = c .before .before .before .before .before .args in sym (some-late (a .stage) (a .code) (omega arith) (omega arith) (omega arith))
 
 returns-6 : tie.Need-returns-6
-returns-6 c = let a = c .before .before .before .before .before .before .before .args in sym (reading-late (a .stage) (a .code) (omega arith) (omega arith) (omega arith))
+returns-6 c = let a = c .before .before .before .before .before .before .before .args in sym (added-late (a .stage) (a .code) (omega arith) (omega arith) (omega arith))
 
 returns-7 : tie.Need-returns-7
-returns-7 c = let a = c .before .before .before .before .args in sym (none-late (a .stage) (a .code) (omega arith) (λ e. omega arith) (λ e. omega arith) (λ e. omega arith) (λ e. omega arith) (λ e. omega arith) (λ e. omega arith))
+returns-7 c = let a = c .before .before .before .before .args in sym (none-late (a .stage) (a .code) (omega arith) (λ l h. omega arith) (λ l h. omega arith))
 
 returns-8 : tie.Need-returns-8
-returns-8 c = let a = c .before .before .before .before .before .before .args in sym (none-late (a .stage) (a .code) (omega arith) (λ e. omega arith) (λ e. omega arith) (λ e. omega arith) (λ e. omega arith) (λ e. omega arith) (λ e. omega arith))
+returns-8 c = let a = c .before .before .before .before .before .before .args in sym (none-late (a .stage) (a .code) (omega arith) (λ l h. omega arith) (λ l h. omega arith))
 
 returns-9 : tie.Need-returns-9
-returns-9 c = let a = c .before .before .before .before .before .before .before .args in sym (none-late (a .stage) (a .code) (omega arith) (λ e. omega arith) (λ e. omega arith) (λ e. omega arith) (λ e. omega arith) (λ e. omega arith) (λ e. omega arith))
+returns-9 c = let a = c .before .before .before .before .before .before .before .args in sym (none-late (a .stage) (a .code) (omega arith) (λ l h. omega arith) (λ l h. omega arith))
 
 pub is-allowed-spec : {M : Type 1} → statement M
 is-allowed-spec = tie.close (tie.spec returns returns-2 returns-3 returns-4 returns-5 returns-6 returns-7 returns-8 returns-9)

@@ -9,10 +9,10 @@ use Rattle.command.proofs.line_operands.Statement.{statement}
 use Rattle.command.proofs.line_operands.Tie as tie
 
 silence-command-requires : tie.Need-silence-command-requires
-silence-command-requires c κs = (omega (arith, rw (c .match .keys1) at (c .before .before .pre .1 .0)), omega arith)
+silence-command-requires c κs = (omega (arith, rw (c .match .keys1) at (c .before .before .pre .1 .1 .0)), omega arith)
 
 tenths-command-requires : tie.Need-tenths-command-requires
-tenths-command-requires c κs = (omega (arith, rw (c .match .keys2) at (c .before .before .pre .1 .0)), omega arith)
+tenths-command-requires c κs = (omega (arith, rw (c .match .keys2) at (c .before .before .pre .1 .1 .0)), omega arith)
 
 returns : tie.Need-returns
 returns c = λ known. rw (c .before .match .keys1) (c .silence-command .ensures known)
@@ -30,7 +30,7 @@ returns-5 c = λ known.
     let k = c .before .before .before .before in
     let high = c .if2 .left in
     let other = c .before .before .match .rest in
-    rw (end-row (k .args .code) (λ e. omega (arith, high)) (λ e. omega (arith, high)) (λ e. omega (arith, high)) (λ e. k .pre .0 (inl (inl e))) (λ e. k .pre .0 (inl (inr e))) (other .0 .1) (other .1) (λ e. k .pre .0 (inr (inl e))) (λ e. k .pre .0 (inr (inr e))))
+    rw (end-row (k .args .code) (λ e. omega (arith, high)) (λ e. omega (arith, high)) (λ e. omega (arith, high)) (λ e. k .pre .0 (inl (inl e))) (λ e. k .pre .0 (inl (inr e))) (other .0 .1) (other .1) (λ e. k .pre .0 (inr (inl e))) (λ e. k .pre .0 (inr (inr e))) (k .pre .1 .0))
 
 pub line-operands-spec : {M : Type 1} → statement M
 line-operands-spec =

@@ -18,10 +18,10 @@ one-of-two code k l h = by (ℕ-discrete code k)
     by (yes e) = inl e
     by (no n) = inr (omega arith)
 
-tone-code : (c : tie.Joined2) → ToneCode (c .before .before .before .args .code)
+tone-code : (c : tie.Joined2) → ToneCode (c .before .before .before .before .args .code)
 tone-code c = elim (c .if2 .came) [
-  | inl t ↦ inl (one-of-two (c .before .before .before .args .code) 4 (c .before .if1 .left) (t .taken))
-  | inr t ↦ inr (one-of-two (c .before .before .before .args .code) 9 (t .1 .left) (t .2 .taken))
+  | inl t ↦ inl (one-of-two (c .before .before .before .before .args .code) 4 (c .before .if1 .left) (t .taken))
+  | inr t ↦ inr (one-of-two (c .before .before .before .before .args .code) 9 (t .1 .left) (t .2 .taken))
 ]
 
 -- a byte of a tone's command is 4 or 5, or 9 or 10
@@ -31,11 +31,11 @@ within code (inl (inr e)) = inl (omega arith, omega arith)
 within code (inr (inl e)) = inr (omega arith, omega arith)
 within code (inr (inr e)) = inr (omega arith, omega arith)
 
-no-tone : (c : tie.Joined1) → ToneCode (c .before .before .args .code) → ⊥
-no-tone c t = by (within (c .before .before .args .code) t)
+no-tone : (c : tie.Joined1) → ToneCode (c .before .before .before .args .code) → ⊥
+no-tone c t = by (within (c .before .before .before .args .code) t)
   where
     code : ℕ
-    code = c .before .before .args .code
+    code = c .before .before .before .args .code
 
     by : ((4 ≤ code) × (code < 6)) ⊎ ((9 ≤ code) × (code < 11)) → ⊥
     by (inl h) = elim (c .if1 .came) [
@@ -49,17 +49,23 @@ no-tone c t = by (within (c .before .before .args .code) t)
       | inr (inr k) ↦ omega (arith, h, k .3 .left)
     ]
 
-tone-command-requires : tie.Need-tone-command-requires
-tone-command-requires c κs = (omega (arith, ap (λ r. width (r .operands)) (tone-row (c .before .before .before .args .code) (tone-code c)), c .before .before .before .pre .0), omega arith)
+rest-command-requires : tie.Need-rest-command-requires
+rest-command-requires c κs = (omega (arith, rw (c .match .keys1) at (c .before .before .pre .0)), (omega arith, c .before .before .pre .1 .1))
 
 returns : tie.Need-returns
-returns c = c .tone-command .ensures ∙ ap (rowAt _ _ _ _) (tone-row (c .before .before .before .before .args .code) (tone-code (c .before)))
+returns c = rw (c .before .match .keys1) (c .rest-command .ensures)
 
-line-operands-requires : tie.Need-line-operands-requires
-line-operands-requires c κs = (no-tone c, (omega (arith, c .before .before .pre .0), omega arith))
+tone-command-requires : tie.Need-tone-command-requires
+tone-command-requires c κs = (omega (arith, ap (λ r. width (r .operands)) (tone-row (c .before .before .before .before .args .code) (tone-code c)), c .before .before .before .before .pre .0), omega arith)
 
 returns-2 : tie.Need-returns-2
-returns-2 c = c .line-operands .ensures _
+returns-2 c = c .tone-command .ensures _ ∙ ap (rowAt _ _ _ _) (tone-row (c .before .before .before .before .before .args .code) (tone-code (c .before)))
+
+line-operands-requires : tie.Need-line-operands-requires
+line-operands-requires c κs = (no-tone c, (c .before .match .rest .1, (omega (arith, c .before .before .before .pre .0), omega arith)))
+
+returns-3 : tie.Need-returns-3
+returns-3 c = c .line-operands .ensures _
 
 pub operands-spec : {M : Type 1} → statement M
-operands-spec = tie.close (tie.spec tone-command-requires line-operands-requires returns returns-2)
+operands-spec = tie.close (tie.spec rest-command-requires tone-command-requires line-operands-requires returns returns-2 returns-3)

@@ -12,7 +12,7 @@ returns c =
     sym (row-cut _ _ (a .s .now) (a .at) (a .code) (c .before .bytes-of .ensures .0) (omega (arith, c .if1 .taken)))
 
 operands-requires : tie.Need-operands-requires
-operands-requires c κs = (omega (arith, c .if1 .left, c .before .bytes-of .ensures .0, c .before .before .before .pre .0), omega arith)
+operands-requires c κs = (omega (arith, c .if1 .left, c .before .bytes-of .ensures .0, c .before .before .before .pre .0), (omega arith, c .before .before .before .pre .1 .1))
 
 returns-2 : tie.Need-returns-2
 returns-2 c =

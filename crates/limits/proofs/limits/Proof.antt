@@ -11,10 +11,10 @@ use Rattle.limits.proofs.limits.Statement.{statement}
 use Rattle.limits.proofs.limits.Tie as tie
 
 abbrev start : tie.After-read2 → tie.Start
-start c = c .before .before .before .before .before .before .before
+start c = c .before .before .before .before .before .before .before .before
 
 -- the arrays index the line that the sheet means
-index : (c : tie.After-read2) → (let r = c .before .before .read-sheet in Indexed (start c .args .s .now) (c .read2 .given .0 .0) (r .last .1 .0) (r .last .1 .1 .0))
+index : (c : tie.After-read2) → (let r = c .before .before .read-sheet in Indexed (start c .args .s .now) (c .read2 .given .0 .0) (r .last .1 .0) (r .last .1 .1 .0) (r .last .1 .1 .1 .0))
 index c = indexed (c .before .before .read-sheet .ensures) (c .read2 .given .1)
 
 returns : tie.Need-returns
@@ -24,21 +24,16 @@ returns c =
     short-ends limits-write (x .means) (start k .args .out .now) (omega (arith, length-limits (x .line), size-is x, c .if1 .taken)) refl
 
 put-limits-requires : tie.Need-put-limits-requires
-put-limits-requires c κs =
-    let i = c .before .before .before in
-    (index (i .before .before .before), omega (arith, i .if1 .left))
+put-limits-requires c κs = (index (c .before .before .before .before .before .before .before), omega (arith, c .before .before .before .before .if1 .left))
 
 returns-2 : tie.Need-returns-2
-returns-2 c =
-    let k = c .before .before .before in
-    refused-ends limits-write _ (k .before .before .before .before .before .args .out .now) (refused-is (k .read-sheet .ensures) (c .before .read .given .1)) refl
+returns-2 c = refused-ends limits-write _ (c .before .before .before .before .before .before .before .before .before .args .out .now) (refused-is (c .before .before .before .read-sheet .ensures) (c .before .read .given .1)) refl
 
 returns-3 : tie.Need-returns-3
 returns-3 c =
-    let i = c .before .before .before .before .before .before in
-    let k = i .before .before .before in
+    let k = c .before .before .before .before .before .before .before .before .before .before in
     let x = index k in
-    let w = written-ends limits-write (x .means) (start k .args .out .now) (omega (arith, length-limits (x .line), size-is x, i .if1 .left)) refl in
+    let w = written-ends limits-write (x .means) (start k .args .out .now) (omega (arith, length-limits (x .line), size-is x, c .before .before .before .before .before .before .before .if1 .left)) refl in
     (w .0, (w .1 .0, c .before .before .put-limits .ensures (x .line) (x .means) ∙ w .1 .1))
 
 pub limits-spec : {M : Type 1} → statement M

@@ -8,10 +8,10 @@ use Rattle.limits.proofs.put_limits.Statement.{statement}
 use Rattle.limits.proofs.put_limits.Tie as tie
 
 abbrev Inv-loop : tie.InvT-loop
-Inv-loop out₀ s header places maps parts i₀ out i = WritingOf s header places maps out₀ out i
+Inv-loop out₀ s header places rests maps parts i₀ out i = WritingOf s header places rests maps out₀ out i
 
 abbrev μ-loop : tie.MeasureT-loop
-μ-loop out₀ s header places maps parts i₀ out i = header .size - i
+μ-loop out₀ s header places rests maps parts i₀ out i = header .size - i
 
 loop-holds : tie.Need-loop-holds Inv-loop μ-loop
 loop-holds c =
@@ -27,33 +27,30 @@ mul-steps-at c = record { fits = omega (arith, size-high (c .before .before .bef
 element-copy-out-steps-at : tie.Need-element-copy-out-steps-at Inv-loop μ-loop
 element-copy-out-steps-at c = omega (arith, size-high (c .before .before .before .loop .inv .index))
 
+mul-steps-at-2 : tie.Need-mul-steps-at-2 Inv-loop μ-loop
+mul-steps-at-2 c = record { fits = omega (arith, size-high (c .before .before .before .before .loop .inv .index)) }
+
+element-copy-out-steps-at-2 : tie.Need-element-copy-out-steps-at-2 Inv-loop μ-loop
+element-copy-out-steps-at-2 c = omega (arith, size-high (c .before .before .before .before .loop .inv .index))
+
 steps-at-requires : tie.Need-steps-at-requires Inv-loop μ-loop
-steps-at-requires c κs =
-    let l = c .before .before .before .before in
-    rw (l .before .parts .ensures) (tone-in-range (l .loop .inv .index) _ (c .before .before .if1 .taken))
+steps-at-requires c κs = rw (c .before .before .before .before .before .before .parts .ensures) (tone-in-range (c .before .before .before .before .before .loop .inv .index) _ (c .before .before .before .if1 .taken))
 
 mul-put-limit : tie.Need-mul-put-limit Inv-loop μ-loop
-mul-put-limit c = record { fits = omega (arith, size-high (c .before .before .before .before .before .before .before .loop .inv .index)) }
+mul-put-limit c = record { fits = omega (arith, size-high (c .before .before .before .before .before .before .before .before .loop .inv .index)) }
 
 put-limit-requires : tie.Need-put-limit-requires Inv-loop μ-loop
-put-limit-requires c κs =
-    let t = c .before .before .before .before .before in
-    let l = t .before .before in
-    omega (arith, t .if1 .taken, l .loop .inv .entries .same-length, l .before .before .before .before .pre .1)
+put-limit-requires c κs = omega (arith, c .before .before .before .before .before .before .if1 .taken, c .before .before .before .before .before .before .before .before .loop .inv .entries .same-length, c .before .before .before .before .before .before .before .before .before .before .before .before .pre .1)
 
 add-i : tie.Need-add-i Inv-loop μ-loop
-add-i c = record { fits = omega (arith, size-high (c .before .before .before .before .before .before .before .before .before .before .loop .inv .index)) }
+add-i c = record { fits = omega (arith, size-high (c .before .before .before .before .before .before .before .before .before .before .before .loop .inv .index)) }
 
 loop-less : tie.Need-loop-less Inv-loop μ-loop
-loop-less c = omega (arith, c .before .before .before .before .before .before .before .before .if1 .taken)
+loop-less c = omega (arith, c .before .before .before .before .before .before .before .before .before .if1 .taken)
 
 loop-again : tie.Need-loop-again Inv-loop μ-loop
 loop-again c =
-    let p = c .before .before in
-    let x = p .before .before .before in
-    let t = x .before .before .before in
-    let l = t .before .before in
-    written-limit (l .loop .inv) (t .if1 .taken) _ (x .before .before .is-silenced .ensures) _ (rw (l .before .parts .ensures) at (x .steps-at .ensures)) (p .put-limit .ensures)
+    written-limit (c .before .before .before .before .before .before .before .before .before .before .before .loop .inv) (c .before .before .before .before .before .before .before .before .before .if1 .taken) _ (c .before .before .before .before .before .before .before .before .is-silenced .ensures) _ (rw (c .before .before .before .before .before .before .before .before .before .before .before .before .parts .ensures) at (c .before .before .before .before .before .steps-at .ensures)) (c .before .before .put-limit .ensures)
 
 same-length : tie.Need-same-length Inv-loop μ-loop
 same-length c = c .before .before .loop .inv .entries .same-length
@@ -74,6 +71,8 @@ put-limits-spec =
     (λ c κs. search needs)
     mul-steps-at
     element-copy-out-steps-at
+    mul-steps-at-2
+    element-copy-out-steps-at-2
     steps-at-requires
     mul-put-limit
     put-limit-requires

@@ -8,6 +8,8 @@ pub const TONES: usize = 256;
 pub const LARGEST_SHEET: usize = 4096;
 /// Masks and budgets end here.
 pub const LARGEST_POWER: u64 = 1 << 47;
+/// The bytes of a 0B.
+pub const REST_BYTES: usize = 6;
 
 #[derive(Clone, Copy, Debug, PartialEq, Eq)]
 pub enum Kind {
@@ -41,6 +43,8 @@ pub struct Line {
     pub gap: Gap,
     pub budget: u64,
     pub described: [Option<Tone>; TONES],
+    /// By 0B, and 0 where none was given: both are the same line.
+    pub rests: [u32; TONES],
     pub silenced: [u32; 8],
 }
 
@@ -67,8 +71,14 @@ impl Tone {
             Given::Read(reading) => reading.length(),
         }
     }
+
+    /// 15: "the rest is not below the cost or is above the mask".
+    pub fn takes_rest(&self, gap: u64, rest: u32) -> bool {
+        u64::from(rest) < self.cost(gap) && u64::from(rest) <= self.mask
+    }
 }
 
+/// The power of some bits, without the rest: that of no bits is 0.
 pub fn power(kind: Kind, cost: u64, bits: u8) -> u64 {
     match kind {
         Kind::Pair => cost * ((1 << bits) - 1),
@@ -133,7 +143,7 @@ fn operand(sheet: &[u8], at: usize, width: usize, low: u64, high: u64) -> Result
 }
 
 /// How many bytes each command has, by its byte.
-const WIDTHS: [usize; 11] = [0, 3, 3, 9, 15, 15, 6, 1, 2, 19, 15];
+const WIDTHS: [usize; 12] = [0, 3, 3, 9, 15, 15, 6, 1, 2, 19, 15, REST_BYTES];
 
 /// The command at a place, if it is allowed and its operands are there.
 fn command(sheet: &[u8], at: usize, allowed: impl Fn(u8) -> bool) -> Result<u8, Refusal> {
@@ -216,8 +226,33 @@ fn read_silence(line: &mut Line, sheet: &[u8], at: usize) -> Result<(), Refusal>
     Ok(())
 }
 
-/// The line of a sheet: refusals 1 to 7, 12 and 13.
-pub fn read(sheet: &[u8]) -> Result<Line, Refusal> {
+/// Command 0B. Which tones have had one, even of rest 0, is no part of the line.
+fn read_rest(
+    line: &mut Line,
+    rested: &mut [bool; TONES],
+    sheet: &[u8],
+    at: usize,
+) -> Result<(), Refusal> {
+    let place = usize::from(sheet[at + 1]);
+    if place >= line.tones {
+        return refuse(5, at + 1);
+    }
+    let rest = number(sheet, at + 2, 4) as u32;
+    match &line.described[place] {
+        Some(tone) if !rested[place] => {
+            if !tone.takes_rest(line.gap.value(), rest) {
+                return refuse(15, at + 2);
+            }
+            line.rests[place] = rest;
+            rested[place] = true;
+            Ok(())
+        }
+        _ => refuse(14, at + 1),
+    }
+}
+
+/// What the bytes of a sheet say: refusals 1 to 7 and 12 to 15.
+pub fn read_bytes(sheet: &[u8]) -> Result<Line, Refusal> {
     if sheet.len() > LARGEST_SHEET {
         return refuse(1, 0);
     }
@@ -227,12 +262,15 @@ pub fn read(sheet: &[u8]) -> Result<Line, Refusal> {
     let mut at = 3 + gap.length();
     command(sheet, at, |byte| byte == 3)?;
     let budget = operand(sheet, at + 1, 8, 0, LARGEST_POWER)?;
-    let mut line = Line { tones, gap, budget, described: [None; TONES], silenced: [0; 8] };
+    let (described, rests, silenced) = ([None; TONES], [0; TONES], [0; 8]);
+    let mut line = Line { tones, gap, budget, described, rests, silenced };
+    let mut rested = [false; TONES];
     at += 9;
     loop {
-        let command = command(sheet, at, |byte| matches!(byte, 4..=7 | 9 | 10))?;
+        let command = command(sheet, at, |byte| matches!(byte, 4..=7 | 9..=11))?;
         match command {
             6 => read_silence(&mut line, sheet, at)?,
+            11 => read_rest(&mut line, &mut rested, sheet, at)?,
             7 if at + 1 < sheet.len() => return refuse(7, at + 1),
             7 => return Ok(line),
             _ => read_tone(&mut line, sheet, at, command)?,
@@ -241,9 +279,31 @@ pub fn read(sheet: &[u8]) -> Result<Line, Refusal> {
     }
 }
 
+/// The line of a sheet: refusal 16 after those of its bytes.
+pub fn read(sheet: &[u8]) -> Result<Line, Refusal> {
+    let mut line = read_bytes(sheet);
+    if line.as_ref().is_ok_and(|line| line.sum_of_rests() > line.budget) {
+        line = refuse(16, 0);
+    }
+    line
+}
+
 impl Line {
     pub fn is_silenced(&self, tone: usize) -> bool {
         self.silenced[tone / 32] >> (tone % 32) & 1 == 1
+    }
+
+    /// What a tone sends with no bits: "A silenced tone sends nothing."
+    pub fn rest(&self, number: usize) -> u64 {
+        match self.is_silenced(number) {
+            true => 0,
+            false => self.rests[number].into(),
+        }
+    }
+
+    /// What all tones send with no bits.
+    pub fn sum_of_rests(&self) -> u64 {
+        (0..self.tones).map(|tone| self.rest(tone)).sum()
     }
 
     /// A tone's limit and what set it: "every other tone is silent".

@@ -16,6 +16,8 @@ pub struct Running {
     pub budget: u64,
     pub kind: [Kind; TONES],
     pub cost: [u64; TONES],
+    /// What each tone sends with no bits.
+    rest: [u64; TONES],
     pub limit: [u8; TONES],
     pub bits: [u8; TONES],
     free: [u64; TONES],
@@ -25,25 +27,27 @@ pub struct Running {
 }
 
 impl Running {
-    /// The table of no bits.
+    /// The table of no bits, in which each tone sends its rest.
     pub fn nothing(line: &Line) -> Running {
         let mut run = Running {
             tones: line.tones,
             budget: line.budget,
             kind: [Kind::Pair; TONES],
             cost: [0; TONES],
+            rest: [0; TONES],
             limit: [0; TONES],
             bits: [0; TONES],
             free: [NO_FREE; TONES],
             held: [NO_HELD; TONES],
             total_bits: 0,
-            total_power: 0,
+            total_power: line.sum_of_rests(),
         };
         let gap = line.gap.value();
         for (number, tone) in line.described[..line.tones].iter().enumerate() {
             let Some(tone) = tone else { continue };
             run.kind[number] = tone.kind;
             run.cost[number] = tone.cost(gap);
+            run.rest[number] = line.rest(number);
             if !line.is_silenced(number) {
                 run.limit[number] = limit(tone, run.cost[number]);
             }
@@ -67,14 +71,21 @@ impl Running {
         Ok(run)
     }
 
+    /// A tone's power at some number of bits: at none, its rest.
+    pub fn power_at(&self, tone: usize, bits: u8) -> u64 {
+        match bits {
+            0 => self.rest[tone],
+            _ => power(self.kind[tone], self.cost[tone], bits),
+        }
+    }
+
     pub fn power(&self, tone: usize) -> u64 {
-        power(self.kind[tone], self.cost[tone], self.bits[tone])
+        self.power_at(tone, self.bits[tone])
     }
 
     /// The size of a tone's step at some number of bits.
     fn step_at(&self, tone: usize, bits: u8) -> u64 {
-        let (kind, cost) = (self.kind[tone], self.cost[tone]);
-        power(kind, cost, bits + 1) - power(kind, cost, bits)
+        self.power_at(tone, bits + 1) - self.power_at(tone, bits)
     }
 
     /// Gives a tone its bits, and keeps the totals and its two steps.

@@ -1,6 +1,6 @@
 //! The independent loader on the papers' own cases, and by exhaustion.
 
-use super::line::{cost, limit, read, set_by, Kind, SetBy, Tone, LARGEST_POWER};
+use super::line::{cost, limit, read, set_by, Kind, SetBy, Tone, LARGEST_POWER, LARGEST_SHEET};
 use super::reading::LARGEST_COST;
 use super::run::{Running, Step};
 use super::*;
@@ -392,7 +392,7 @@ fn places_of_readings() {
         }
         assert_eq!(refusal(&[&sheet[..], &tone].concat()), (7, 61));
     }
-    assert_eq!(refusal(&[&sheet[..15], &[11]].concat()), (3, 15));
+    assert_eq!(refusal(&[&sheet[..15], &[12]].concat()), (3, 15));
 }
 
 /// 214 tones of 09 fit, and 256 of 0A.
@@ -413,6 +413,258 @@ fn full_lines_of_readings() {
     }
 }
 
+/// 0B of a tone.
+fn rest(number: u8, rest: u32) -> Vec<u8> {
+    [&[11, number][..], &rest.to_be_bytes()].concat()
+}
+
+/// The sample with other commands before its end.
+fn and(budget: u64, commands: &[Vec<u8>]) -> Vec<u8> {
+    [&sample(budget)[..60], &commands.concat(), &[7]].concat()
+}
+
+/// The sample with a rest of 2 on tone 0 and of 1 on tone 1. Its costs are 3, 5 and 1, so
+/// that the first steps are 1, 4 and, without a rest, 3.
+fn rested(budget: u64) -> Vec<u8> {
+    and(budget, &[rest(0, 2), rest(1, 1)])
+}
+
+/// Steps 1, 3 and 4 lead from the rests, 3 in all, to 4, 7 and 11; from there on it is the
+/// sample.
+#[test]
+fn most_bits_with_rests() {
+    let most = |budget| outcome(|table, answer| load_most(&rested(budget), table, answer));
+    let nothing = (0, [0; 3], [2, 1, 0], [0, 3, 0]);
+    assert_eq!(most(2), (16 << 32, [0; 3], [0; 3], [0; 3]));
+    assert_eq!(most(3), nothing);
+    assert_eq!(most(4), (0, [1, 0, 0], [3, 1, 0], [1, 4, 0]));
+    assert_eq!(most(6), most(4));
+    assert_eq!(most(7), (0, [1, 0, 1], [3, 1, 3], [2, 7, 0]));
+    assert_eq!(most(10), most(7));
+    assert_eq!(most(11), (0, [1, 1, 1], [3, 5, 3], [3, 11, 0]));
+    for budget in [11, 38, 39, 50, 51, 170, 171] {
+        assert_eq!(most(budget), self::most(budget));
+    }
+}
+
+#[test]
+fn set_number_of_bits_with_rests() {
+    let target = |budget, target| {
+        outcome(|table, answer| load_target(&rested(budget), target, table, answer))
+    };
+    for budget in [3, 39, 171, LARGEST_POWER] {
+        assert_eq!(target(budget, 0), (0, [0; 3], [2, 1, 0], [0, 3, 0]));
+        assert_eq!(target(budget, 11), REFUSED_11);
+    }
+    assert_eq!(target(3, 1), REFUSED_11);
+    assert_eq!(target(39, 1), (0, [1, 0, 0], [3, 1, 0], [1, 4, 0]));
+    assert_eq!(target(39, 6), self::target(39, 6));
+    assert_eq!(target(38, 6), REFUSED_11);
+}
+
+/// From 0, 2, 3 at 39 as without rests, but that the start has 2 more. At 3 no step fits.
+/// From 0, 0, 1 at 6 the start's 6 fits, and tone 0's step of 1 comes before the 3 of tone 2.
+#[test]
+fn refit_with_rests() {
+    let refit = |budget, start: [u8; 3]| {
+        outcome(|table, answer| super::refit(&rested(budget), &start, table, answer))
+    };
+    let step = |budget, start: [u8; 3]| {
+        outcome(|table, answer| refit_step(&rested(budget), &start, table, answer))
+    };
+    assert_eq!(step(39, [0, 2, 3]), (0, [1, 2, 2], [3, 15, 15], [5, 33, 1]));
+    assert_eq!(refit(39, [0, 2, 3]), (0, [3, 2, 1], [21, 15, 3], [6, 39, 3]));
+    assert_eq!(refit(3, [0; 3]), (0, [0; 3], [2, 1, 0], [0, 3, 0]));
+    assert_eq!(step(3, [0; 3]), refit(3, [0; 3]));
+    assert_eq!(step(4, [0; 3]), (0, [1, 0, 0], [3, 1, 0], [1, 4, 1]));
+    assert_eq!(refit(6, [0, 0, 1]), (0, [1, 0, 0], [3, 1, 0], [1, 4, 1]));
+    assert_eq!(refit(3, [1, 0, 0]), (0, [0; 3], [2, 1, 0], [0, 3, 1]));
+    assert_eq!(refit(3, [5, 2, 3]), (0, [0; 3], [2, 1, 0], [0, 3, 10]));
+}
+
+/// "A silenced tone sends nothing", wherever its silence stands; it keeps its rest.
+#[test]
+fn silenced_rests() {
+    let silence = vec![6, 0, 0, 0, 0, 1];
+    let after = and(1, &[rest(0, 2), rest(1, 1), silence.clone()]);
+    let between = and(1, &[rest(1, 1), silence.clone(), rest(0, 2)]);
+    let first = [&sample(1)[..15], &silence, &rested(1)[15..]].concat();
+    for sheet in [&after, &between, &first] {
+        let run = outcome(|table, answer| load_most(sheet, table, answer));
+        assert_eq!(run, (0, [0; 3], [0, 1, 0], [0, 1, 0]));
+        let counts = outcome(|_, answer| check(sheet, answer));
+        assert_eq!(counts.3, [3, 3, 1]);
+        assert_eq!(read(sheet), read(&after));
+        let mut over = sheet.clone();
+        over[14] = 0;
+        assert_eq!(refusal(&over), (16, 0));
+    }
+    assert_ne!(read(&after), read(&and(1, &[rest(1, 1), silence.clone()])));
+    // 15 is judged of it too.
+    assert_eq!(refusal(&and(1, &[silence, rest(0, 3)])), (15, 68));
+}
+
+/// Two rests that make first steps of all sizes alike: the lower tone comes first.
+#[test]
+fn ties_by_rests() {
+    // Costs 3, 5 and 1: first steps 3, 3 and 3.
+    let sheet = |budget| and(budget, &[rest(1, 2)]);
+    let most = |budget| outcome(|table, answer| load_most(&sheet(budget), table, answer));
+    assert_eq!(most(5), (0, [1, 0, 0], [3, 2, 0], [1, 5, 0]));
+    assert_eq!(most(8), (0, [1, 1, 0], [3, 5, 0], [2, 8, 0]));
+    assert_eq!(most(11), (0, [1, 1, 1], [3, 5, 3], [3, 11, 0]));
+    let step = outcome(|table, answer| refit_step(&sheet(5), &[0, 0, 1], table, answer));
+    assert_eq!(step, (0, [1, 0, 0], [3, 2, 0], [1, 5, 1]));
+}
+
+/// A rest of 0 and none are one line, and not one with a rest.
+#[test]
+fn rest_of_0() {
+    let sheet = and(39, &[rest(0, 0), rest(2, 0)]);
+    assert_eq!(read(&sheet), read(&sample(39)));
+    assert_ne!(read(&sheet), read(&rested(39)));
+}
+
+/// A rest is tidied to stand straight after its tone, and one of 0 is dropped.
+#[test]
+fn tidying_rests() {
+    let sheet = sample(39);
+    let due = [&sheet[..30], &rest(0, 2), &sheet[30..45], &rest(1, 1), &sheet[45..]].concat();
+    let silence = vec![6, 0, 0, 0, 0, 2];
+    let silenced = [&due[..due.len() - 1], &silence, &[7]].concat();
+    for (untidy, due) in [
+        (rested(39), &due),
+        (and(39, &[rest(1, 1), rest(2, 0), rest(0, 2)]), &due),
+        (due.clone(), &due),
+        (and(39, &[rest(2, 0)]), &sheet),
+        (and(39, &[silence, rest(1, 1), rest(0, 2)]), &silenced),
+    ] {
+        let (mut written, mut answer) = (vec![0; due.len()], [0; 24]);
+        assert_eq!(tidy(&untidy, &mut written, &mut answer), 0);
+        assert_eq!((&written, value(&answer)), (due, due.len() as u64));
+        assert_eq!(read(due), read(&untidy));
+        written.pop();
+        assert_eq!(tidy(&untidy, &mut written, &mut answer), 8 << 32);
+    }
+}
+
+/// 5 and then 14 at the tone, 15 at the rest; the sample's tones cost 3, 5 and 1.
+#[test]
+fn rests_refused() {
+    let any = u32::MAX;
+    for (rests, due) in [
+        (vec![(0, 2), (1, 4), (2, 0)], (0, 0)),
+        (vec![(3, any)], (5, 61)),
+        (vec![(0, 2), (255, 0)], (5, 67)),
+        (vec![(0, 2), (0, any)], (14, 67)),
+        (vec![(0, 0), (0, 0)], (14, 67)),
+        (vec![(0, 0), (1, 1), (0, 2)], (14, 73)),
+        (vec![(0, 3)], (15, 62)),
+        (vec![(1, 5)], (15, 62)),
+        (vec![(2, 1)], (15, 62)),
+        (vec![(0, 2), (1, any)], (15, 68)),
+        (vec![(0, 1 << 24)], (15, 62)),
+    ] {
+        let rests: Vec<Vec<u8>> =
+            rests.into_iter().map(|(tone, power)| rest(tone, power)).collect();
+        assert_eq!(refusal(&and(39, &rests)), due, "{rests:02x?}");
+    }
+    // Before the tone is described, and of one that is not.
+    let sheet = sample(39);
+    let early = |place: usize| [&sheet[..place], &rest(1, 1), &sheet[place..]].concat();
+    for (place, due) in [(15, (14, 16)), (30, (14, 31)), (45, (0, 0)), (60, (0, 0))] {
+        assert_eq!(refusal(&early(place)), due);
+    }
+    let undescribed = [&sheet[..15], &sheet[30..60], &rest(0, 0), &[7]].concat();
+    assert_eq!(refusal(&undescribed), (14, 46));
+}
+
+/// A rest up to the mask and below the cost, of every command and at the sheet's own gap.
+#[test]
+fn largest_rests() {
+    let whole = |command: u8, mask: u8| vec![command, 0, 0, 3, 0, 1, 7, 0, 0, 0, 0, 0, 0, 0, mask];
+    for mask in [0, 1, 2, 3, 100] {
+        let tones = [
+            whole(4, mask),
+            whole(5, mask),
+            reading(0, &bits(&[6.0, 2.0]), 7, mask.into()),
+            reading(0, &bits(&[3.0]), 7, mask.into()),
+        ];
+        for (tone, (gap, cost)) in tones.iter().flat_map(|t| [(256, 3), (512, 6)].map(|g| (t, g))) {
+            let due = u32::min(mask.into(), cost - 1);
+            for (power, due) in [(due, (0, 0)), (due + 1, (15, 17 + tone.len()))] {
+                let commands = [&tone[..], &rest(0, power)].concat();
+                let sheet = with_tones(39, gap, &[commands]);
+                assert_eq!(refusal(&sheet), due, "{sheet:02x?}");
+            }
+        }
+    }
+}
+
+/// 0B stands where 04 stands and nowhere else, and has all its bytes.
+#[test]
+fn places_of_rests() {
+    let sheet = sample(39);
+    let new = rest(3, u32::MAX);
+    for place in [0, 3, 6] {
+        let early = [&sheet[..place], &new, &sheet[place..]].concat();
+        assert_eq!(refusal(&early), (3, place));
+    }
+    for length in 1..new.len() {
+        let cut = [&sheet[..60], &new[..length]].concat();
+        assert_eq!(refusal(&cut), (2, 60 + length));
+    }
+    assert_eq!(refusal(&[&sheet[..], &new].concat()), (7, 61));
+}
+
+/// 16 in every call, after 7 and before 8, 9, 10 and 11.
+#[test]
+fn rests_over_the_budget() {
+    use crate::calls::Call;
+    let every = |sheet: &[u8], start: &[u8], room: usize| {
+        Call::ALL.map(|call| {
+            let (mut written, mut answer) = (vec![238; room], vec![238; room.min(24)]);
+            let returned = call.papers(sheet, start, u32::MAX, &mut written, &mut answer);
+            assert!(returned == 0 || written.iter().chain(&answer).all(|byte| *byte == 238));
+            returned
+        })
+    };
+    let over = rested(2);
+    // A good start; one of a wrong length; one above the limit of tone 1.
+    for start in [&[0, 2, 3][..], &[0, 2], &[0, 3, 0]] {
+        for room in [0, 23, 100] {
+            assert_eq!(every(&over, start, room), [16 << 32; 7]);
+        }
+    }
+    assert_eq!(every(&[&over[..], &[7]].concat(), &[], 0), [7 << 32 | over.len() as u64; 7]);
+    let at_end = and(2, &[rest(0, 2), rest(1, 1), rest(2, 1)]);
+    assert_eq!(every(&at_end, &[], 0), [15 << 32 | 74; 7]);
+    assert_eq!(every(&rested(3), &[0; 3], 0), [8 << 32; 7]);
+    assert_eq!(printed(&over), "refused 16 0\n");
+    let due = "0 0 2 mask\n1 0 1 cap\n2 0 0 mask\ntotal 0 3\n";
+    assert_eq!(printed(&rested(3)), due);
+}
+
+/// With a rest each, 194 tones of 15 bytes fit, and 163 of 09.
+#[test]
+fn full_lines_of_rests() {
+    for (floats, tones) in [(&[3.0, 2.0][..], 163), (&[1.5], 194)] {
+        let mut sheet = vec![1, 1, 0, 2, 1, 0, 3, 0, 0, 0, 0, 0, 0, 1, 0];
+        for number in 0..tones {
+            sheet.extend(reading(number as u8, &bits(floats), 15, 100));
+            sheet.extend(rest(number as u8, 1));
+        }
+        sheet.push(7);
+        assert!(sheet.len() <= LARGEST_SHEET && sheet.len() + 21 > LARGEST_SHEET);
+        let line = read(&sheet).unwrap();
+        assert_eq!((line.count_described(), tidy_length(&line)), (tones, sheet.len()));
+        let mut run = Running::nothing(&line);
+        while run.add() {}
+        // Each costs 2, so the first steps are 1, up to 256.
+        assert_eq!((run.total_bits, run.total_power), (256 - tones, 256));
+    }
+}
+
 #[test]
 fn bench_program_output() {
     let due = "0 3 21 mask\n1 2 15 cap\n2 1 3 mask\ntotal 6 39\n";
@@ -421,13 +673,22 @@ fn bench_program_output() {
     assert_eq!(printed(&[1; 4097]), "refused 1 0\n");
 }
 
+/// A tone's power at some number of bits, from what the sheet says of it.
+fn power(line: &Line, number: usize, bits: u8) -> u64 {
+    match &line.described[number] {
+        Some(tone) if bits > 0 => line::power(tone.kind, tone.cost(line.gap.value()), bits),
+        Some(_) if !line.is_silenced(number) => line.rests[number].into(),
+        _ => 0,
+    }
+}
+
 /// Every table within the limits: the least power for each number of bits.
-fn least_powers(run: &Running) -> Vec<u64> {
+fn least_powers(line: &Line, run: &Running) -> Vec<u64> {
     let total: usize = run.limit[..run.tones].iter().map(|bits| usize::from(*bits)).sum();
     let mut least = vec![u64::MAX; total + 1];
     let mut bits = vec![0; run.tones];
     loop {
-        let powers = (0..run.tones).map(|t| line::power(run.kind[t], run.cost[t], bits[t]));
+        let powers = (0..run.tones).map(|tone| power(line, tone, bits[tone]));
         let sum: usize = bits.iter().map(|bits| usize::from(*bits)).sum();
         least[sum] = least[sum].min(powers.sum());
         let Some(tone) = (0..run.tones).find(|&tone| bits[tone] < run.limit[tone]) else {
@@ -439,27 +700,29 @@ fn least_powers(run: &Running) -> Vec<u64> {
 }
 
 /// The steps of all tones from one table up to another, in order.
-fn steps(run: &Running, from: &[u8], to: &[u8]) -> BTreeSet<Step> {
+fn steps(line: &Line, from: &[u8], to: &[u8]) -> BTreeSet<Step> {
     let mut steps = BTreeSet::new();
-    for tone in 0..run.tones {
-        let power = |bits| line::power(run.kind[tone], run.cost[tone], bits);
+    for tone in 0..line.tones {
+        let power = |bits| power(line, tone, bits);
         steps.extend((from[tone]..to[tone]).map(|bits| (power(bits + 1) - power(bits), tone)));
     }
     steps
 }
 
-fn held(run: &Running) -> BTreeSet<Step> {
-    steps(run, &[0; line::TONES], &run.bits)
+fn held(line: &Line, run: &Running) -> BTreeSet<Step> {
+    steps(line, &[0; line::TONES], &run.bits)
 }
 
-fn free(run: &Running) -> BTreeSet<Step> {
-    steps(run, &run.bits, &run.limit)
+fn free(line: &Line, run: &Running) -> BTreeSet<Step> {
+    steps(line, &run.bits, &run.limit)
 }
 
-/// The two searches, against all steps of all tones.
-fn check_searches(run: &Running) {
-    assert_eq!(run.earliest_free().as_ref(), free(run).first());
-    assert_eq!(run.latest_held().as_ref(), held(run).last());
+/// The two searches, against all steps of all tones; and the total power.
+fn check_searches(line: &Line, run: &Running) {
+    assert_eq!(run.earliest_free().as_ref(), free(line, run).first());
+    assert_eq!(run.latest_held().as_ref(), held(line, run).last());
+    let powers = (0..line.tones).map(|tone| power(line, tone, run.bits[tone]));
+    assert_eq!(run.total_power, powers.sum());
 }
 
 /// Each tone's limit, against every number of bits up to its cap: the mask set it if
@@ -483,10 +746,11 @@ fn check_limits(line: &Line, run: &Running) {
 
 /// The rule of the re-fit over all held and all free steps: how many moves it
 /// makes, and what is held at its end.
-fn plain_refit(run: &Running) -> (u64, BTreeSet<Step>) {
-    let (mut held, mut free) = (held(run), free(run));
+fn plain_refit(line: &Line, run: &Running) -> (u64, BTreeSet<Step>) {
+    let (mut held, mut free) = (held(line, run), free(line, run));
+    let rests: u64 = (0..line.tones).map(|tone| power(line, tone, 0)).sum();
     for moves in 0.. {
-        let power: u64 = held.iter().map(|step| step.0).sum();
+        let power = rests + held.iter().map(|step| step.0).sum::<u64>();
         let (latest, earliest) = (held.last().copied(), free.first().copied());
         let exchange = latest.zip(earliest).is_some_and(|(latest, earliest)| earliest < latest);
         let over = power > run.budget;
@@ -510,18 +774,21 @@ fn plain_refit(run: &Running) -> (u64, BTreeSet<Step>) {
 #[test]
 fn best_of_all_tables() {
     let mut random = Random::new(8, 0);
-    for index in 0..2_000 {
+    let mut with_rests = 0;
+    for index in 0..3_000 {
         let sheet = crate::sheets::small(7, index);
         let line = read(&sheet).unwrap();
         let mut run = Running::nothing(&line);
         check_limits(&line, &run);
         let limits = run.limit;
-        let least = least_powers(&run);
-        check_searches(&run);
+        let least = least_powers(&line, &run);
+        check_searches(&line, &run);
+        with_rests += u32::from(least[0] > 0);
         while run.add() {
             assert_eq!(run.total_power, least[run.total_bits as usize]);
-            check_searches(&run);
+            check_searches(&line, &run);
         }
+        assert!(run.total_power <= line.budget, "sheet {sheet:02x?}");
         let next = least.get(run.total_bits as usize + 1);
         assert!(next.is_none_or(|power| *power > line.budget), "sheet {sheet:02x?}");
         for _ in 0..4 {
@@ -530,15 +797,17 @@ fn best_of_all_tables() {
                 .map(|&bits| random.between(0, bits.into()) as u8)
                 .collect();
             let mut refitted = Running::from_start(&line, &start).unwrap();
-            let plain = plain_refit(&refitted);
-            check_searches(&refitted);
+            let plain = plain_refit(&line, &refitted);
+            check_searches(&line, &refitted);
             let mut moves = 0;
             while refitted.refit_step() {
-                check_searches(&refitted);
+                check_searches(&line, &refitted);
                 moves += 1;
             }
             assert_eq!(refitted.bits, run.bits, "sheet {sheet:02x?} start {start:?}");
-            assert_eq!((moves, held(&refitted)), plain, "sheet {sheet:02x?} start {start:?}");
+            let ended = (moves, held(&line, &refitted));
+            assert_eq!(ended, plain, "sheet {sheet:02x?} start {start:?}");
         }
     }
+    assert!(with_rests > 400, "{with_rests} lines with rests");
 }

@@ -9,15 +9,15 @@ use Rattle.tidy.proofs.writer.put_tones.Statement.{statement}
 use Rattle.tidy.proofs.writer.put_tones.Tie as tie
 
 abbrev Inv-loop : tie.InvT-loop
-Inv-loop s size places out₀ at place₀ i₀ out place i = (i ≤ size) × Written (λ n. copies n s places) out₀ at i out place
+Inv-loop s size places rests out₀ at place₀ i₀ out place i = (i ≤ size) × Written (λ n. copies n s places rests) out₀ at i out place
 
 abbrev μ-loop : tie.MeasureT-loop
-μ-loop s size places out₀ at place₀ i₀ out place i = size - i
+μ-loop s size places rests out₀ at place₀ i₀ out place i = size - i
 
 loop-holds : tie.Need-loop-holds Inv-loop μ-loop
 loop-holds c =
     let a = c .before .before .args in
-    (omega arith, written-none (copies-grow (a .s .now) (a .places .now)) (a .out .now) (a .at))
+    (omega arith, written-none (copies-grow (a .s .now) (a .places .now) (a .rests .now)) (a .out .now) (a .at))
 
 mul-put-tone : tie.Need-mul-put-tone Inv-loop μ-loop
 mul-put-tone c = omega arith
@@ -25,12 +25,20 @@ mul-put-tone c = omega arith
 element-copy-out-put-tone : tie.Need-element-copy-out-put-tone Inv-loop μ-loop
 element-copy-out-put-tone c = omega arith
 
+mul-put-tone-2 : tie.Need-mul-put-tone-2 Inv-loop μ-loop
+mul-put-tone-2 c = omega arith
+
+element-copy-out-put-tone-2 : tie.Need-element-copy-out-put-tone-2 Inv-loop μ-loop
+element-copy-out-put-tone-2 c = omega arith
+
 put-tone-requires : tie.Need-put-tone-requires Inv-loop μ-loop
 put-tone-requires c κs =
-    let a = c .before .before .before in
-    let k = a .before .before .before in
-    let grows = copies-grow (k .args .s .now) (k .args .places .now) in
-    (k .pre .1 .0 (a .loop .i), written-room grows (k .args .out .now) (k .args .at) (a .loop .inv .1) (c .before .before .loop-test .taken) (k .pre .1 .1))
+    let t = c .before .before .before in
+    let l = t .before .loop in
+    let k = t .before .before .before .before in
+    let p = k .pre .1 in
+    let grows = copies-grow (k .args .s .now) (k .args .places .now) (k .args .rests .now) in
+    (p .0 (l .i), (p .1 .0 (l .i), written-room grows (k .args .out .now) (k .args .at) (l .inv .1) (t .loop-test .taken) (p .1 .1)))
 
 add-i : tie.Need-add-i Inv-loop μ-loop
 add-i c = omega arith
@@ -40,10 +48,10 @@ loop-less c = omega arith
 
 loop-again : tie.Need-loop-again Inv-loop μ-loop
 loop-again c =
-    let a = c .before .before .before .before .before .before in
+    let a = c .before .before .before .before .before .before .before in
     let k = a .before .before .before .args in
     let e = c .before .before .put-tone .ensures in
-    (omega arith, written-next (copies-grow (k .s .now) (k .places .now)) (k .out .now) (k .at) (a .loop .inv .1) (e .0) (e .1))
+    (omega arith, written-next (copies-grow (k .s .now) (k .places .now) (k .rests .now)) (k .out .now) (k .at) (a .loop .inv .1) (e .0) (e .1))
 
 same-length : tie.Need-same-length Inv-loop μ-loop
 same-length c = c .before .loop .inv .1 .same-length
@@ -63,6 +71,8 @@ put-tones-spec =
     loop-holds
     mul-put-tone
     element-copy-out-put-tone
+    mul-put-tone-2
+    element-copy-out-put-tone-2
     put-tone-requires
     add-i
     loop-less
