@@ -5,6 +5,7 @@ ghost use Prim.Native.Nat.{_+_, _<_};
 ghost use lib.ListN.{getD};
 ghost use Rattle.sizes.specs.Sizes.{mostTones};
 ghost use Rattle.lists.specs.Lent.{before};
+ghost use Rattle.line.specs.Tone.{isRest, InRange};
 ghost use Rattle.places.specs.Places.{addressed, numbersAt, floatAt, levelsAt, ratioAt, toneAt, restFrom};
 use line::Kind;
 use line::Numbers;
@@ -112,4 +113,20 @@ pub fn rest_at(s: &[u8], place: u16) -> u32
         return 0;
     }
     bigendian::number_at(s, place as usize + 2, 4) as u32
+}
+
+// Whether the tone whose command stands at a place takes a rest. The commands are told apart here too, and not by `tone_at`: so that has one
+// caller, and the compiler keeps a tone out of memory where the runs want it.
+pub fn takes_rest(s: &[u8], gap: u16, place: u16, rest: u32) -> bool
+    requires { ⌜ InRange gap (toneAt (now s) place) ⌝ }
+    ensures { λ r. ⌜ r ≡ isRest gap (toneAt (before s) place) rest ⌝ }
+{
+    let code = byte_at(s, place as usize);
+    let kind = match code {
+        5 => Kind::Single(numbers_at(s, place)),
+        9 => Kind::Read(levels_at(s, place)),
+        10 => Kind::Read(ratio_at(s, place)),
+        _ => Kind::Pair(numbers_at(s, place)),
+    };
+    line::is_rest(gap, Tone { kind: kind }, rest)
 }

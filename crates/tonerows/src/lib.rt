@@ -158,9 +158,8 @@ pub fn rest_command(s: &[u8], at: usize, header: Header, place: u16, rested: u16
         return cannot_take(at + 1);
     }
     let rest = bigendian::number_at(s, at + 2, 4) as u32;
-    let described = places::tone_at(s, place);
     let gap = header.gap;
-    if !line::is_rest(gaps::parts(gap), described, rest) {
+    if !places::takes_rest(s, gaps::parts(gap), place, rest) {
         return Command::Refused(Refusal::RestOutOfRange((at + 2) as u16));
     }
     Command::Rest(tone)

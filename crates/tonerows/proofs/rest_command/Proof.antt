@@ -40,31 +40,31 @@ tone-in-range c =
     let a = c .before .before .before .before .before .before .args in
     (rw (entry-there (a .s .now) (a .rested) (a .place) (omega arith)) at (c .before .before .before .before .before .before .pre .1 .1)) .0
 
-is-rest-requires : tie.Need-is-rest-requires
-is-rest-requires c κs = rw (c .parts .ensures, c .before .tone-at .ensures) (tone-in-range (c .before .before .before))
+takes-rest-requires : tie.Need-takes-rest-requires
+takes-rest-requires c κs = rw (c .parts .ensures) (tone-in-range (c .before .before))
 
 -- what the operands come to is what the test of the rest decides
-judged : (c : tie.After-is-rest) (b : Bool) → c .is-rest .result ≡ b → let a = c .before .before .before .before .before .before .before .before .before .before .args in isRestOf (parts (a .header .gap)) (entryAt (a .s .now) (a .place) (a .rested)) (number (a .s .now) (a .at + 2) 4) ≡ b
+judged : (c : tie.After-takes-rest) (b : Bool) → c .takes-rest .result ≡ b → let a = c .before .before .before .before .before .before .before .before .before .args in isRestOf (parts (a .header .gap)) (entryAt (a .s .now) (a .place) (a .rested)) (number (a .s .now) (a .at + 2) 4) ≡ b
 judged c b e =
-    let a = c .before .before .before .before .before .before .before .before .before .before .args in
-    let read : c .before .before .before .number-at .result ≡ number (a .s .now) (a .at + 2) 4 = c .before .before .before .number-at .ensures .0 ∙ number-there _ _ 4 (omega arith) (omega arith) in
+    let a = c .before .before .before .before .before .before .before .before .before .args in
+    let read : c .before .before .number-at .result ≡ number (a .s .now) (a .at + 2) 4 = c .before .before .number-at .ensures .0 ∙ number-there _ _ 4 (omega arith) (omega arith) in
     rest-judged (a .s .now) (a .place) (a .rested) (parts (a .header .gap)) (number (a .s .now) (a .at + 2) 4) (omega arith)
-    ∙ sym (rw (c .before .parts .ensures, c .before .before .tone-at .ensures, read) at (c .is-rest .ensures))
+    ∙ sym (rw (c .before .parts .ensures, read) at (c .takes-rest .ensures))
     ∙ e
 
 returns-4 : tie.Need-returns-4
 returns-4 c =
-    let a = c .before .before .before .before .before .before .before .before .before .before .before .args in
+    let a = c .before .before .before .before .before .before .before .before .before .before .args in
     sym
     (rest-operands _ _ _ _
-    ∙ rw (lt-leb _ _ (c .before .before .before .before .before .before .before .if1 .left), no-rest-yet (a .s .now) (a .place) (a .rested) (omega arith) (omega arith), judged (c .before) _ (not-true _ (c .if4 .taken))))
+    ∙ rw (lt-leb _ _ (c .before .before .before .before .before .before .if1 .left), no-rest-yet (a .s .now) (a .place) (a .rested) (omega arith) (omega arith), judged (c .before) _ (not-true _ (c .if4 .taken))))
 
 returns-5 : tie.Need-returns-5
 returns-5 c =
-    let a = c .before .before .before .before .before .before .before .before .before .before .before .args in
+    let a = c .before .before .before .before .before .before .before .before .before .before .args in
     sym
     (rest-operands _ _ _ _
-    ∙ rw (lt-leb _ _ (c .before .before .before .before .before .before .before .if1 .left), no-rest-yet (a .s .now) (a .place) (a .rested) (omega arith) (omega arith), judged (c .before) _ (not-false _ (c .if4 .left))))
+    ∙ rw (lt-leb _ _ (c .before .before .before .before .before .before .if1 .left), no-rest-yet (a .s .now) (a .place) (a .rested) (omega arith) (omega arith), judged (c .before) _ (not-false _ (c .if4 .left))))
 
 pub rest-command-spec : {M : Type 1} → statement M
 rest-command-spec =
@@ -86,8 +86,7 @@ rest-command-spec =
     (λ c κs. search needs)
     (λ c. search needs)
     (λ c κs. search needs)
-    (λ c κs. search needs)
-    is-rest-requires
+    takes-rest-requires
     (λ c. search needs)
     (λ c. search needs)
     returns-4
