@@ -19,7 +19,7 @@ use Rattle.sheet.specs.Index.{Indexed}
 use Rattle.sheet.specs.Reading.{reading}
 use Rattle.sheet.proofs.Sound.{Bytes, Sound, accepted-fits}
 use Rattle.sheet.proofs.Uses.{size-is}
-use Rattle.arrays.specs.Tones.{HoldsLineOf}
+use Rattle.arrays.specs.Tones.{Blank, HoldsLineOf}
 use Rattle.arrays.proofs.Indexed.{SoundIndex, sound-index, steps-found}
 
 -- the first i tones of a line are in the arrays, and nothing past them
@@ -80,9 +80,9 @@ pub record FillingOf (s : List ℕ) (h : Header) (places rested maps limits cost
   pub index : SoundIndex s h places rested maps
   pub filling : Filling (index .indexed .line) limits costs doublings rests i
 
-pub filling-starts : {s places rested maps : List ℕ} {h : Header} → Bytes s → Indexed s h places rested maps
-    → FillingOf s h places rested maps (replicate mostTones 0) (replicate mostTones 0) (replicate mostTones 0) (replicate mostTones 0) 0
-filling-starts b x = record { index = sound-index b x; filling = filling-none (x .line) }
+pub filling-starts : {s places rested maps limits costs doublings rests : List ℕ} {h : Header} → Bytes s → Indexed s h places rested maps → Blank (arrays limits costs doublings rests)
+    → FillingOf s h places rested maps limits costs doublings rests 0
+filling-starts b x N = record { index = sound-index b x; filling = rw (N .limits, N .costs, N .doublings, N .rests) (filling-none (x .line)) }
 
 module _ {s places rested maps limits costs doublings rests : List ℕ} {h : Header} {i : ℕ} (F : FillingOf s h places rested maps limits costs doublings rests i) where
   -- one tone more, as the code finds it at its places

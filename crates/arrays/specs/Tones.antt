@@ -2,11 +2,20 @@
 -- Assumes nothing.
 use mathlib.Core.Path.{_≡_}
 use Prim.Native.Nat.{_≤_}
+use lib.ListN.{replicate}
+use Rattle.sizes.specs.Sizes.{mostTones}
 use Rattle.line.specs.Line.{restTotal, LineInRange}
 use Rattle.line.specs.Arrays.{Arrays, ArraysOf}
 use Rattle.sheet.specs.declared.Read.{Read}
 use Rattle.sheet.specs.declared.Read.the-variants as read
 use Rattle.sheet.specs.Reading.{Meaning, accepted, refused, headerOf}
+
+-- the arrays have nothing in them: a caller makes them so, where it begins
+pub record Blank (A : Arrays) : Type 0 where
+  pub limits : A .limits ≡ replicate mostTones 0
+  pub costs : A .costs ≡ replicate mostTones 0
+  pub doublings : A .doublings ≡ replicate mostTones 0
+  pub rests : A .rests ≡ replicate mostTones 0
 
 -- the arrays are those of the line, if there is one, whose rests keep its budget
 abbrev pub HoldsLineOf : Meaning → Arrays → Type 0

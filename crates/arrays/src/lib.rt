@@ -3,11 +3,11 @@
 ghost use mathlib.Core.Path.{_≡_};
 ghost use Rattle.lists.specs.Lent.{before};
 ghost use Rattle.line.specs.Line.{EntryInRange, entrySteps};
-ghost use Rattle.line.specs.Arrays.{arraysBefore, arraysAfter};
+ghost use Rattle.line.specs.Arrays.{arrays, arraysBefore, arraysAfter};
 ghost use Rattle.places.specs.Places.{entryAt};
 ghost use Rattle.sheet.specs.Reading.{reading};
 ghost use Rattle.sheet.specs.Index.{Indexed};
-ghost use Rattle.arrays.specs.Tones.{HoldsLineOf, TonesOf};
+ghost use Rattle.arrays.specs.Tones.{Blank, HoldsLineOf, TonesOf};
 use line::Limit;
 use line::SetBy;
 use line::Steps;
@@ -41,7 +41,7 @@ pub fn steps_at(s: &[u8], gap: u16, place: u16, rested: u16, silenced: bool) -> 
     line::steps_of(gap, tone, rest)
 }
 
-// The arrays of the line that an index of the sheet stands for.
+// The arrays of the line that an index of the sheet stands for, filled from nothing.
 fn fill_arrays(
     s: &[u8],
     header: Header,
@@ -54,14 +54,11 @@ fn fill_arrays(
     rests: &mut [u32; TONES],
 )
     requires { ⌜ Indexed (now s) header (now places) (now rested) (now maps) ⌝ }
+    requires { ⌜ Blank (arrays (now limits) (now costs) (now doublings) (now rests)) ⌝ }
     ensures { λ r. ⌜ HoldsLineOf (reading (before s)) (arraysAfter limits costs doublings rests) ⌝ }
 {
     let gap = header.gap;
     let parts = gaps::parts(gap);
-    *limits = [0; TONES];
-    *costs = [0; TONES];
-    *doublings = [0; TONES];
-    *rests = [0; TONES];
     let mut i: usize = 0;
     while i < header.size as usize {
         let tone = i as u8;
@@ -75,8 +72,8 @@ fn fill_arrays(
     }
 }
 
-// Reads a sheet into the arrays of its tones: its header, or the first refusal that it meets. After a refusal the arrays are as they
-// were.
+// Reads a sheet into the arrays of its tones, which have nothing in them: its header, or the first refusal that it meets. After a refusal the
+// arrays are as they were.
 pub fn read_tones(
     s: &[u8],
     limits: &mut [u8; TONES],
@@ -84,6 +81,7 @@ pub fn read_tones(
     doublings: &mut [u8; TONES],
     rests: &mut [u32; TONES],
 ) -> Read
+    requires { ⌜ Blank (arrays (now limits) (now costs) (now doublings) (now rests)) ⌝ }
     ensures { λ r. ⌜ TonesOf r (arraysBefore limits costs doublings rests) (arraysAfter limits costs doublings rests) (reading (before s)) ⌝ }
 {
     let mut places: [u16; TONES] = [0; TONES];

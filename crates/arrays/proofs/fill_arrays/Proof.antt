@@ -14,7 +14,7 @@ abbrev μ-loop : tie.MeasureT-loop
 μ-loop s header places rested maps limits₀ costs₀ doublings₀ rests₀ parts i₀ limits costs doublings rests i = header .size - i
 
 loop-holds : tie.Need-loop-holds Inv-loop μ-loop
-loop-holds c = filling-starts (λ i. c .before .before .before .before .before .shared-slice-known .given i .fits) (c .before .before .before .before .before .before .pre)
+loop-holds c = filling-starts (λ i. c .before .shared-slice-known .given i .fits) (c .before .before .pre .0) (c .before .before .pre .1)
 
 cast-tone : tie.Need-cast-tone Inv-loop μ-loop
 cast-tone c = omega (arith, size-high (c .before .before .loop .inv .index))
@@ -32,7 +32,7 @@ element-copy-out-steps-at-2 : tie.Need-element-copy-out-steps-at-2 Inv-loop μ-l
 element-copy-out-steps-at-2 c = omega (arith, size-high (c .before .before .before .before .loop .inv .index))
 
 steps-at-requires : tie.Need-steps-at-requires Inv-loop μ-loop
-steps-at-requires c κs = rw (c .before .before .before .before .before .before .before .before .before .before .parts .ensures) (tone-in-range (c .before .before .before .before .before .loop .inv .index) _ (c .before .before .before .if1 .taken))
+steps-at-requires c κs = rw (c .before .before .before .before .before .before .parts .ensures) (tone-in-range (c .before .before .before .before .before .loop .inv .index) _ (c .before .before .before .if1 .taken))
 
 element-write-limits : tie.Need-element-write-limits Inv-loop μ-loop
 element-write-limits c = omega (arith, size-high (c .before .before .before .before .before .before .loop .inv .index))
@@ -60,7 +60,7 @@ loop-less c = omega arith
 
 loop-again : tie.Need-loop-again Inv-loop μ-loop
 loop-again c =
-    filled-next (c .before .before .before .before .before .before .loop .inv) (c .before .before .before .before .if1 .taken) _ (c .before .before .before .is-silenced .ensures) _ (rw (c .before .before .before .before .before .before .before .before .before .before .before .parts .ensures) at (c .steps-at .ensures))
+    filled-next (c .before .before .before .before .before .before .loop .inv) (c .before .before .before .before .if1 .taken) _ (c .before .before .before .is-silenced .ensures) _ (rw (c .before .before .before .before .before .before .before .parts .ensures) at (c .steps-at .ensures))
 
 returns : tie.Need-returns Inv-loop μ-loop
 returns c = filled-line (c .before .before .loop .inv) (omega arith)

@@ -7,7 +7,7 @@ use Rattle.arrays.proofs.read_tones.Statement.{statement}
 use Rattle.arrays.proofs.read_tones.Tie as tie
 
 fill-arrays-requires : tie.Need-fill-arrays-requires
-fill-arrays-requires c κs = indexed (c .before .before .before .before .before .before .before .before .before .before .read-sheet .ensures) (c .before .before .before .before .before .before .before .before .read2 .given .1)
+fill-arrays-requires c κs = (indexed (c .before .before .before .before .before .before .before .before .before .before .read-sheet .ensures) (c .before .before .before .before .before .before .before .before .read2 .given .1), c .before .before .before .before .before .before .before .before .before .before .before .before .before .before .before .pre)
 
 returns : tie.Need-returns
 returns c =
