@@ -1,8 +1,8 @@
 -- The cost of whole numbers is what document 01 calls it, and in its range; the cost of a reading in range is granted.
 -- Assumes nothing.
 use mathlib.Core.Path.{_≡_}
-use Prim.Native.Nat.{ℕ, zero, suc, _*_, _≤_}
-use native.Mathlib.Nat.{mul-le-mul}
+use Prim.Native.Nat.{ℕ, zero, suc, _*_, _≤_, _<_}
+use native.Mathlib.Nat.{mul-le-mul, mul-le-mul-right, le-trans, lt-of-not-le, not-le-of-lt}
 use native.Mathlib.Omega.{arith}
 use Rattle.sizes.specs.Sizes.{mostCost}
 use Rattle.gaps.specs.Gap.{gapUnit, mostGap, PartsInRange}
@@ -18,6 +18,13 @@ module _ (g : ℕ) (n : Numbers) (I : NumbersInRange n) where
   pub whole-is : Ceiling (g * n .noise) (gapUnit * n .gain) (wholeCost g n)
   unfolding wholeCost
   whole-is = ceiling-is (g * n .noise) (gapUnit * n .gain) (omega (arith, I .gain-low))
+
+  -- a whole number is below it where it is below the fraction, and else not
+  pub below-cost : (rest : ℕ) → rest * (gapUnit * n .gain) < g * n .noise → rest < wholeCost g n
+  below-cost rest h = lt-of-not-le (λ l. not-le-of-lt h (le-trans (whole-is .enough) (mul-le-mul-right (gapUnit * n .gain) l)))
+
+  pub above-cost : (rest : ℕ) → g * n .noise ≤ rest * (gapUnit * n .gain) → wholeCost g n ≤ rest
+  above-cost rest h = whole-is .least rest h
 
   module _ (high : g ≤ mostGap) where
     pub product-high : g * n .noise ≤ 4294836225

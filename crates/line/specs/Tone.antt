@@ -86,8 +86,11 @@ pub record InRange (g : ℕ) (t : Tone) : Type 0 where
   pub cost : Cost (cost g t)
 
 -- W6, refusal 15: 'the rest is not below the cost or is above the mask'; else it is one that the tone takes
+abbrev pub isBelow : (cost mask rest : ℕ) → Bool
+isBelow cost mask rest = ltb rest cost && leb rest mask
+
 abbrev pub isRest : (g : ℕ) → Tone → (rest : ℕ) → Bool
-isRest g t rest = ltb rest (cost g t) && leb rest (boundsOf t .mask)
+isRest g t rest = isBelow (cost g t) (boundsOf t .mask) rest
 
 pub record RestInRange (g : ℕ) (t : Tone) (rest : ℕ) : Type 0 where
   pub below-cost : rest < cost g t

@@ -1,9 +1,10 @@
 // One tone of a line: document 01, 'Cost, power and limit of a tone'; document 02, W3 to W6.
 ghost use mathlib.Core.Path.{_≡_};
 ghost use Prim.Native.Nat.{_*_, _^_, _≤_, _<_};
+ghost use Rattle.readings.specs.Reading.{Usable, grantedCost};
 ghost use Rattle.line.specs.Line.{stepsOf};
 ghost use Rattle.line.specs.Arrays.{powerOf, powerIn};
-ghost use Rattle.line.specs.Tone.{mostCap, boundsOf, doublings, NumbersInRange, BoundsInRange, InRange, Cost, wholeCost, cost, isRest, limitOf};
+ghost use Rattle.line.specs.Tone.{mostCap, boundsOf, doublings, NumbersInRange, BoundsInRange, InRange, Cost, wholeCost, cost, isBelow, limitOf};
 ghost use Rattle.line.specs.Tries.{tries};
 use gaps::GAP_UNIT;
 use readings::Reading;
@@ -196,13 +197,23 @@ fn limit_of(tone: Tone, cost: u32) -> Tried
     }
 }
 
-// Whether a tone takes a rest: one below its cost and within its mask.
-pub fn is_rest(gap: u16, tone: Tone, rest: u32) -> bool
-    requires { ⌜ InRange gap tone ⌝ }
-    ensures { λ r. ⌜ r ≡ isRest gap tone rest ⌝ }
+// Whether a tone with whole numbers takes a rest: one below its cost and within its mask. The cost is not worked out: a whole number is below
+// a fraction rounded up where it is below the fraction.
+pub fn numbers_take(gap: u16, n: Numbers, rest: u32) -> bool
+    requires { ⌜ NumbersInRange n ⌝ }
+    ensures { λ r. ⌜ r ≡ isBelow (wholeCost gap n) (n .mask) rest ⌝ }
 {
-    let bounds = bounds_of(tone);
-    rest < cost(gap, tone) && rest as u64 <= bounds.mask
+    let top = gap as u64 * n.noise as u64;
+    let bottom = GAP_UNIT * n.gain as u64;
+    rest as u64 * bottom < top && rest as u64 <= n.mask
+}
+
+// Whether a tone with a reading and a mask takes a rest.
+pub fn reading_takes(gap: u16, reading: Reading, mask: u64, rest: u32) -> bool
+    requires { ⌜ Usable reading ⌝ }
+    ensures { λ r. ⌜ r ≡ isBelow (grantedCost gap reading) mask rest ⌝ }
+{
+    rest < readings::cost_of(gap, reading) && rest as u64 <= mask
 }
 
 // What is found of a tone with a rest that is described and not silenced.

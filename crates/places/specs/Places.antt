@@ -7,6 +7,7 @@ use lib.Dec.{eqb}
 use lib.Ieee.{Float}
 use lib.ListN.{getD}
 use Rattle.bigendian.specs.Number.{numberAt}
+use Rattle.readings.specs.declared.Levels.{Levels}
 use Rattle.readings.specs.declared.Reading.the-variants.{Both, Ratio}
 use Rattle.readings.specs.Reading.{floatOf}
 use Rattle.line.specs.declared.Numbers.{Numbers}
@@ -30,9 +31,12 @@ abbrev pub floatAt : List ℕ → (at : ℕ) → Float
 floatAt s at = floatOf (numberAt s at 4)
 
 -- W5, 09: 'tone, noise float, gain float, cap, mask'
+abbrev pub bothAt : List ℕ → (place : ℕ) → Levels
+bothAt s place = record { noise = floatAt s (place + 2); gain = floatAt s (place + 6) }
+
 abbrev pub levelsAt : List ℕ → (place : ℕ) → ReadNumbers
 levelsAt s place = record {
-  reading = Both (record { noise = floatAt s (place + 2); gain = floatAt s (place + 6) });
+  reading = Both (bothAt s place);
   cap = getD s (place + 10) 0;
   mask = numberAt s (place + 11) 8;
 }

@@ -6,7 +6,7 @@ ghost use lib.ListN.{getD};
 ghost use Rattle.sizes.specs.Sizes.{mostTones};
 ghost use Rattle.lists.specs.Lent.{before};
 ghost use Rattle.line.specs.Tone.{isRest, InRange};
-ghost use Rattle.places.specs.Places.{addressed, numbersAt, floatAt, levelsAt, ratioAt, toneAt, restFrom};
+ghost use Rattle.places.specs.Places.{addressed, numbersAt, floatAt, bothAt, levelsAt, ratioAt, toneAt, restFrom};
 use line::Kind;
 use line::Numbers;
 use line::ReadNumbers;
@@ -56,15 +56,22 @@ fn float_at(s: &[u8], place: u16, from: u8) -> f32
     readings::float_of(bits)
 }
 
+// Noise and gain as floats.
+fn both_at(s: &[u8], place: u16) -> Levels
+    ensures { λ r. ⌜ r ≡ bothAt (before s) place ⌝ }
+{
+    Levels {
+        noise: float_at(s, place, 2),
+        gain: float_at(s, place, 6),
+    }
+}
+
 // What a tone's command with noise and gain as floats carries.
 fn levels_at(s: &[u8], place: u16) -> ReadNumbers
     ensures { λ r. ⌜ r ≡ levelsAt (before s) place ⌝ }
 {
     let at = place as usize;
-    let levels = Levels {
-        noise: float_at(s, place, 2),
-        gain: float_at(s, place, 6),
-    };
+    let levels = both_at(s, place);
     ReadNumbers {
         reading: Reading::Both(levels),
         cap: byte_at(s, at + 10),
@@ -115,18 +122,23 @@ pub fn rest_at(s: &[u8], place: u16) -> u32
     bigendian::number_at(s, place as usize + 2, 4) as u32
 }
 
-// Whether the tone whose command stands at a place takes a rest. The commands are told apart here too, and not by `tone_at`: so that has one
-// caller, and the compiler keeps a tone out of memory where the runs want it.
+// Whether the tone whose command stands at a place takes a rest. It is judged by what its cost goes by and by its mask, and not by `tone_at`:
+// so that has one caller, and the compiler keeps a tone out of memory where the runs want it.
 pub fn takes_rest(s: &[u8], gap: u16, place: u16, rest: u32) -> bool
     requires { ⌜ InRange gap (toneAt (now s) place) ⌝ }
     ensures { λ r. ⌜ r ≡ isRest gap (toneAt (before s) place) rest ⌝ }
 {
-    let code = byte_at(s, place as usize);
-    let kind = match code {
-        5 => Kind::Single(numbers_at(s, place)),
-        9 => Kind::Read(levels_at(s, place)),
-        10 => Kind::Read(ratio_at(s, place)),
-        _ => Kind::Pair(numbers_at(s, place)),
-    };
-    line::is_rest(gap, Tone { kind: kind }, rest)
+    let at = place as usize;
+    let code = byte_at(s, at);
+    match code {
+        9 => {
+            let mask = bigendian::number_at(s, at + 11, 8);
+            line::reading_takes(gap, Reading::Both(both_at(s, place)), mask, rest)
+        }
+        10 => {
+            let mask = bigendian::number_at(s, at + 7, 8);
+            line::reading_takes(gap, Reading::Ratio(float_at(s, place, 2)), mask, rest)
+        }
+        _ => line::numbers_take(gap, numbers_at(s, place), rest),
+    }
 }
