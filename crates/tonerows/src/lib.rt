@@ -147,15 +147,16 @@ pub fn rest_command(s: &[u8], at: usize, header: Header, place: u16, rested: u16
     requires { ⌜ EntryInRange (parts (header .gap)) (entryAt (now s) place rested) ⌝ }
     ensures { λ r. ⌜ r ≡ rowAt header (knownAt (before s) place rested) (before s) at rest ⌝ }
 {
-    let tone = s[at + 1] as u16;
+    let operand = at + 1;
+    let tone = s[operand] as u16;
     if header.size <= tone {
-        return Command::Refused(Refusal::ToneBeyondLine((at + 1) as u16));
+        return Command::Refused(Refusal::ToneBeyondLine(operand as u16));
     }
     if place < 1 {
-        return cannot_take(at + 1);
+        return cannot_take(operand);
     }
     if 0 < rested {
-        return cannot_take(at + 1);
+        return cannot_take(operand);
     }
     let rest = bigendian::number_at(s, at + 2, 4) as u32;
     let gap = header.gap;

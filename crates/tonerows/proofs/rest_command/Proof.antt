@@ -74,12 +74,9 @@ rest-command-spec =
     (λ c. search needs)
     cast-tone
     (λ c. search needs)
-    (λ c. search needs)
     returns
-    (λ c. search needs)
     (λ c κs. search needs)
     returns-2
-    (λ c. search needs)
     (λ c κs. search needs)
     returns-3
     (λ c. search needs)
