@@ -9,7 +9,7 @@ use Rattle.line.specs.declared.Tone.{Tone}
 use Rattle.line.specs.Tone.{boundsOf, cost, isRest, RestInRange}
 
 -- two tests that both pass
-both-pass : (a b : Bool) → (a && b) ≡ true → (a ≡ true) × (b ≡ true)
+pub both-pass : (a b : Bool) → (a && b) ≡ true → (a ≡ true) × (b ≡ true)
 both-pass true b e = (refl, e)
 both-pass false b e = absurd (true≢false (sym e))
 

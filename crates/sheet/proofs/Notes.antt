@@ -1,8 +1,8 @@
 -- The arrays keep up with the line, command by command.
 -- Assumes nothing.
-use mathlib.Core.Bool.{Bool, true, false, not, _&&_, true≢false}
+use mathlib.Core.Bool.{true, false, not}
 use mathlib.Core.List.{List}
-use mathlib.Core.Path.{_≡_, refl, sym, ap, _∙_}
+use mathlib.Core.Path.{_≡_, sym, ap, _∙_}
 use Prim.Native.Nat.{ℕ, _*_, _^_, _≤_, _<_}
 use native.Mathlib.Decide.{decLe, ℕ-discrete}
 use native.Mathlib.Omega.{arith}
@@ -16,6 +16,7 @@ use Rattle.lists.proofs.Stores.{all-same, after-store}
 use Rattle.silence.specs.Map.{namesBeyond, joined}
 use Rattle.silence.proofs.Maps.{beyond-zero}
 use Rattle.line.specs.Line.{undescribed, described, isDescribed, withRest, Line, entryOf}
+use Rattle.line.proofs.Rested.{both-pass}
 use Rattle.rows.specs.declared.Header.{Header}
 use Rattle.rows.specs.declared.Command.the-variants.{Describe, Rest, Silence}
 use Rattle.places.specs.Places.{toneAt, restAt, entryAt}
@@ -47,11 +48,7 @@ module _ {s places rests maps : List ℕ} {l : Line} (x : Indexes s places rests
 
 -- a tone that takes a rest is described
 pub described-takes : (k : Known) → takesRest k ≡ true → isDescribed (k .entry) ≡ true
-described-takes k e = by (isDescribed (k .entry)) (not (k .rested)) e
-  where
-    by : (a b : Bool) → (a && b) ≡ true → a ≡ true
-    by true b f = refl
-    by false b f = absurd (true≢false (sym f))
+described-takes k e = both-pass (isDescribed (k .entry)) (not (k .rested)) e .0
 
 module _ (s : List ℕ) {places rests maps : List ℕ} where
   -- a new header leaves a line with nothing described and nothing silenced

@@ -36,10 +36,11 @@ bareLine h = record { size = h .size; gap = h .gap; budget = h .budget; entries 
 abbrev pub emptyLine : Line
 emptyLine = bareLine (record { size = 0; gap = Parts 0; budget = 0 })
 
--- What a command at a place does to the line. A new header comes before any tone.
+-- a line with another entry for tone i
 abbrev pub withEntry : Line → (i : ℕ) → Entry → Line
 withEntry l i e = record { size = l .size; gap = l .gap; budget = l .budget; entries = set (l .entries) i e; maps = l .maps }
 
+-- What a command at a place does to the line. A new header comes before any tone; W6: a 0B gives a described tone its rest.
 abbrev pub effect : Command → List ℕ → (at : ℕ) → Line → Line
 effect End s at l = l
 effect (Refused r) s at l = l
@@ -57,6 +58,7 @@ pub record SoFar : Type 0 where
 abbrev pub nothing : SoFar
 nothing = record { line = emptyLine; rested = λ i. false }
 
+-- after a command: a 0B is remembered of its tone
 abbrev pub restedAfter : Command → (ℕ → Bool) → (i : ℕ) → Bool
 restedAfter (Rest j) rested i = cond (eqb i j) true (rested i)
 restedAfter End rested i = rested i
