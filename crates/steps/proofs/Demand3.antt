@@ -5,7 +5,7 @@ use Prim.Native.Nat.{ℕ, suc, _-_, _<_}
 use native.Mathlib.Omega.{arith}
 use lib.ListN.{length-replicate, getD-replicate}
 use Rattle.steps.specs.Tones.{Tones, Rising, Table, _!_, noBits, powers, totalBits, totalPower, sumOfLimits, KeepsLimits, KeepsBudget}
-use Rattle.steps.specs.Runs.{Answer, moved, finished, addStep, refitStep, mostBits, refitRun}
+use Rattle.steps.specs.Runs.{Answer, moved, finished, addStep, refitStep, run, mostBits, refitRun}
 use Rattle.steps.specs.Claims.{Efficient, Final, Demand3}
 use Rattle.steps.proofs.Changes.{total-taking, bits-taking, efficient-taking}
 use Rattle.steps.proofs.Rule.{Move, exchange, give-up, take-one, Did, refitStep-is, addStep-is}
@@ -81,28 +81,32 @@ module _ (T : Tones) (R : Rising T) (budget : ℕ) (base : KeepsBudget T budget 
   pub no-bits-at : (i : ℕ) → i < T .count → noBits T ! i ≡ 0
   no-bits-at i il = getD-replicate {A = ℕ} (T .count) i 0 0 il
 
+  -- adding may start from any efficient table within limits and budget
+  pub adding-at : {t : Table} → KeepsLimits T t → Efficient T t → KeepsBudget T budget t → Adding T budget (sumOfLimits T) t
+  adding-at w s fits = record { within = w; efficient = s; fits = fits; left = at-most-limits T R budget w }
+
+  -- no bits are such a table
   pub adding-starts : Adding T budget (sumOfLimits T) (noBits T)
-  adding-starts = record {
-    within = w;
-    efficient = record { sorted = λ {i} {b} x y. absurd (omega (arith, no-bits-at i (x .tone))) };
-    fits = base;
-    left = at-most-limits T R budget w;
-  }
-    where
-      w : KeepsLimits T (noBits T)
-      w = record { sized = length-replicate (T .count) 0; under = λ i il. omega (arith, no-bits-at i il) }
+  adding-starts =
+      adding-at (record { sized = length-replicate (T .count) 0; under = λ i il. omega (arith, no-bits-at i il) })
+      (record { sorted = λ {i} {b} x y. absurd (omega (arith, no-bits-at i (x .tone))) }) base
 
-  -- The adding run ends by itself, after at most as many moves as the limits add up to.
+  -- The adding run ends by itself, after at most as many moves as the limits add up to: from any such table, and so from no bits.
+  pub adding-from : {t : Table} → Adding T budget (sumOfLimits T) t → Ends (addStep T budget) (Adding T budget) (sumOfLimits T) t (run (addStep T budget) (sumOfLimits T) t)
+  adding-from {t} A =
+      run-ends (addStep T budget) (Adding T budget) (λ n t u A e. let f = add-moves A e in (f .0, f .1)) _ (sumOfLimits T) t (omega arith) A
+
   pub adding-ends : Ends (addStep T budget) (Adding T budget) (sumOfLimits T) (noBits T) (mostBits T budget)
-  adding-ends =
-      run-ends (addStep T budget) (Adding T budget) (λ n t u A e. let f = add-moves A e in (f .0, f .1)) _ (sumOfLimits T) (noBits T)
-      (omega arith) adding-starts
+  adding-ends = adding-from adding-starts
 
-  -- Adding ends final.
-  pub adding-final : Final T budget (mostBits T budget .table)
-  adding-final =
-      let r = adding-ends in
+  -- Adding ends final, from any such table too.
+  pub adding-from-final : {t : Table} → Adding T budget (sumOfLimits T) t → Final T budget (run (addStep T budget) (sumOfLimits T) t .table)
+  adding-from-final A =
+      let r = adding-from A in
       add-finished (r .good) (r .stops)
+
+  pub adding-final : Final T budget (mostBits T budget .table)
+  adding-final = adding-from-final adding-starts
 
   -- ---- demand 3
 

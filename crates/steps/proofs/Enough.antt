@@ -10,7 +10,7 @@ use Rattle.steps.specs.Tones.{Tones, Rising, Table, _!_, noBits, totalBi
 use Rattle.steps.specs.Runs.{Answer, moved, finished, addStep, addStepTo, refitStep, Ran, follow, run, mostBits, refitRun, carrying, setBits}
 use Rattle.steps.proofs.Sums.{sum-zero}
 use Rattle.steps.proofs.Run.{run-moved, run-finished}
-use Rattle.steps.proofs.Demand3.{Adding, refit-ends, add-moves, no-bits-at, adding-starts, adding-ends}
+use Rattle.steps.proofs.Demand3.{Adding, refit-ends, add-moves, no-bits-at, adding-starts, adding-from}
 
 -- a run that has ended stays where it is, however many more moves it may make
 pub run-more : (rule : Table → Answer) (k j : ℕ) (t : Table) → rule (run rule k t .table) ≡ finished → k ≤ j → run rule j t ≡ run rule k t
@@ -35,8 +35,12 @@ moves-at-most rule (suc k) t = go (rule t) (moves-at-most rule k)
     go (moved u) ih = omega (arith, ih u)
 
 module _ (T : Tones) (R : Rising T) (budget : ℕ) (base : KeepsBudget T budget (noBits T)) where
+  -- As many moves as the limits add up to are enough: to add from any table where adding may start, and so from no bits; and to re-fit.
+  pub adding-enough : {t : Table} → Adding T budget (sumOfLimits T) t → (k : ℕ) → sumOfLimits T ≤ k → run (addStep T budget) k t ≡ run (addStep T budget) (sumOfLimits T) t
+  adding-enough {t} A k l = run-more (addStep T budget) (sumOfLimits T) k t (adding-from T R budget base A .stops) l
+
   pub most-bits-enough : (k : ℕ) → sumOfLimits T ≤ k → run (addStep T budget) k (noBits T) ≡ mostBits T budget
-  most-bits-enough k l = run-more (addStep T budget) (sumOfLimits T) k (noBits T) (adding-ends T R budget base .stops) l
+  most-bits-enough = adding-enough (adding-starts T R budget base)
 
   pub refit-enough : {t : Table} → KeepsLimits T t → (k : ℕ) → sumOfLimits T ≤ k → run (refitStep T budget) k t ≡ refitRun T budget t
   refit-enough {t} w k l = run-more (refitStep T budget) (sumOfLimits T) k t (refit-ends T R budget base w .stops) l
@@ -71,7 +75,7 @@ module _ (T : Tones) (R : Rising T) (budget : ℕ) (base : KeepsBudget T budget 
       (omega (arith, sum-zero (T .count) (λ i. noBits T ! i) (no-bits-at T R budget base))))
 
   -- each move adds one bit
-  adds-bits : (k n : ℕ) (t : Table) → Adding T budget n t → totalBits T (run (addStep T budget) k t .table) ≡ totalBits T t + run (addStep T budget) k t .moves
+  pub adds-bits : (k n : ℕ) (t : Table) → Adding T budget n t → totalBits T (run (addStep T budget) k t .table) ≡ totalBits T t + run (addStep T budget) k t .moves
   unfolding run follow
   adds-bits zero n t A = omega arith
   adds-bits (suc k) n t A = go (addStep T budget t) refl (λ n u. adds-bits k n u)

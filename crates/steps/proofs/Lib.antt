@@ -11,4 +11,5 @@ pub mod Left
 pub mod Demand3
 pub mod SetBits
 pub mod Enough
+pub mod Passes
 pub mod Examples

@@ -1,3 +1,4 @@
 pub mod Tones
 pub mod Runs
 pub mod Claims
+pub mod Passes
