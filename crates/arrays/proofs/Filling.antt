@@ -16,8 +16,8 @@ use Rattle.line.specs.Arrays.{arrays, ArraysOf}
 use Rattle.rows.specs.declared.Header.{Header}
 use Rattle.places.specs.Places.{entryAt}
 use Rattle.sheet.specs.Index.{Indexed}
-use Rattle.sheet.specs.Reading.{reading}
-use Rattle.sheet.proofs.Sound.{Bytes, Sound, accepted-fits}
+use Rattle.sheet.specs.Reading.{said}
+use Rattle.sheet.proofs.Sound.{Bytes, Sound}
 use Rattle.sheet.proofs.Uses.{size-is}
 use Rattle.arrays.specs.Tones.{Blank, HoldsLineOf}
 use Rattle.arrays.proofs.Indexed.{SoundIndex, sound-index, steps-found}
@@ -94,5 +94,5 @@ module _ {s places rested maps limits costs doublings rests : List ℕ} {h : Hea
   }
 
   -- all of them are in
-  pub filled-line : h .size ≤ i → HoldsLineOf (reading s) (arrays limits costs doublings rests)
-  filled-line l = rw (F .index .indexed .means) (F .index .sound .in-range, accepted-fits s (F .index .indexed .line) (F .index .indexed .means), filling-all (F .index .sound) (F .filling) (omega (arith, size-is (F .index .indexed))))
+  pub filled-line : h .size ≤ i → HoldsLineOf (said s) (arrays limits costs doublings rests)
+  filled-line l = rw (F .index .indexed .means) (F .index .sound .in-range, filling-all (F .index .sound) (F .filling) (omega (arith, size-is (F .index .indexed))))

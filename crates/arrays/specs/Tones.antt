@@ -1,10 +1,9 @@
 -- What reading a sheet into the arrays of its tones answers and leaves.
 -- Assumes nothing.
 use mathlib.Core.Path.{_≡_}
-use Prim.Native.Nat.{_≤_}
 use lib.ListN.{replicate}
 use Rattle.sizes.specs.Sizes.{mostTones}
-use Rattle.line.specs.Line.{restTotal, LineInRange}
+use Rattle.line.specs.Line.{LineInRange}
 use Rattle.line.specs.Arrays.{Arrays, ArraysOf}
 use Rattle.sheet.specs.declared.Read.{Read}
 use Rattle.sheet.specs.declared.Read.the-variants as read
@@ -17,9 +16,9 @@ pub record Blank (A : Arrays) : Type 0 where
   pub doublings : A .doublings ≡ replicate mostTones 0
   pub rests : A .rests ≡ replicate mostTones 0
 
--- the arrays are those of the line, if there is one, whose rests keep its budget
+-- the arrays are those of the line, if there is one, which is in range
 abbrev pub HoldsLineOf : Meaning → Arrays → Type 0
-HoldsLineOf (accepted l) A = LineInRange l × (restTotal l ≤ l .budget) × ArraysOf l A
+HoldsLineOf (accepted l) A = LineInRange l × ArraysOf l A
 HoldsLineOf (refused q) A = Unit {0}
 
 -- The header of the line, which is in range, and its arrays; or the refusal, and the arrays as they were.

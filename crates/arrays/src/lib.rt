@@ -5,7 +5,7 @@ ghost use Rattle.lists.specs.Lent.{before};
 ghost use Rattle.line.specs.Line.{EntryInRange, entrySteps};
 ghost use Rattle.line.specs.Arrays.{arrays, arraysBefore, arraysAfter};
 ghost use Rattle.places.specs.Places.{entryAt};
-ghost use Rattle.sheet.specs.Reading.{reading};
+ghost use Rattle.sheet.specs.Reading.{said, reading};
 ghost use Rattle.sheet.specs.Index.{Indexed};
 ghost use Rattle.arrays.specs.Tones.{Blank, HoldsLineOf, TonesOf};
 use line::Limit;
@@ -42,7 +42,7 @@ pub fn steps_at(s: &[u8], gap: u16, place: u16, rested: u16, silenced: bool) -> 
 }
 
 // The arrays of the line that an index of the sheet stands for, filled from nothing.
-fn fill_arrays(
+pub fn fill_arrays(
     s: &[u8],
     header: Header,
     places: &[u16; TONES],
@@ -55,7 +55,7 @@ fn fill_arrays(
 )
     requires { ⌜ Indexed (now s) header (now places) (now rested) (now maps) ⌝ }
     requires { ⌜ Blank (arrays (now limits) (now costs) (now doublings) (now rests)) ⌝ }
-    ensures { λ r. ⌜ HoldsLineOf (reading (before s)) (arraysAfter limits costs doublings rests) ⌝ }
+    ensures { λ r. ⌜ HoldsLineOf (said (before s)) (arraysAfter limits costs doublings rests) ⌝ }
 {
     let gap = header.gap;
     let parts = gaps::parts(gap);

@@ -18,7 +18,7 @@ use Rattle.line.specs.Line.{Line, gapOf, entryOf, entrySteps, stepsAt}
 use Rattle.line.proofs.Arrays.{limit-same}
 use Rattle.rows.specs.declared.Header.{Header}
 use Rattle.places.specs.Places.{entryAt}
-use Rattle.sheet.specs.Reading.{accepted, reading}
+use Rattle.sheet.specs.Reading.{accepted, said}
 use Rattle.sheet.specs.Index.{Indexed}
 use Rattle.sheet.proofs.Sound.{Bytes}
 use Rattle.sheet.proofs.Uses.{size-is}
@@ -69,7 +69,7 @@ module _ {s places rests maps out₀ out : List ℕ} {h : Header} {i : ℕ} (W :
   }
 
   -- all of them are written
-  pub written-limits : h .size ≤ i → (l : Line) → reading s ≡ accepted l → out ≡ sets out₀ 0 (limitBytes l)
+  pub written-limits : h .size ≤ i → (l : Line) → said s ≡ accepted l → out ≡ sets out₀ 0 (limitBytes l)
   written-limits all l e =
       let same : line ≡ l = cc (W .index .indexed .means) in
       let n : i ≡ line .size = omega (arith, W .inside, size-is (W .index .indexed)) in

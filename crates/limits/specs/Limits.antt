@@ -8,12 +8,9 @@ use lib.Dec.{eqb}
 use Rattle.line.specs.declared.SetBy.{SetBy}
 use Rattle.line.specs.declared.SetBy.the-variants.{Silent, Cap, Mask}
 use Rattle.line.specs.Line.{Line, tones, setByAt}
-use Rattle.refusals.specs.Refusals.{Outcome, success, refusal}
-use Rattle.refusals.specs.Writing.{Writing, writes, turned-down}
+use Rattle.refusals.specs.Writing.{Writing}
 use Rattle.sheet.specs.Reading.{Meaning}
 use Rattle.sheet.specs.Writes.{writing}
-use Rattle.limits.specs.declared.Limited.{Limited}
-use Rattle.limits.specs.declared.Limited.the-variants.{Written, Refused}
 
 -- the number of each case: 0 silent, 1 cap, 2 mask
 abbrev pub setByNumber : SetBy → ℕ
@@ -40,17 +37,3 @@ limitBytes l = limitsBelow l (l .size)
 -- The sheet's refusals, 8, or the limits written.
 abbrev pub limiting : Meaning → (room : ℕ) → Writing
 limiting m room = writing limitBytes m room
-
--- The call answers nothing but that the limits are written: as the enum, and as the paper's numbers.
-abbrev pub limitAnswer : Writing → Limited
-limitAnswer (writes bytes) = Written
-limitAnswer (turned-down r) = Refused r
-
-abbrev pub limitOutcome : Writing → Outcome
-limitOutcome (writes bytes) = success []
-limitOutcome (turned-down r) = refusal 0 r
-
--- the paper's number, place and answers of each case of the enum
-abbrev pub limitNumbers : Limited → Outcome
-limitNumbers Written = success []
-limitNumbers (Refused r) = refusal 0 r

@@ -7,24 +7,19 @@ ghost use lib.Seq.{sets};
 ghost use Rattle.sizes.specs.Sizes.{limitBytesATone};
 ghost use Rattle.lists.specs.Lent.{before, after};
 ghost use Rattle.line.specs.Line.{Line};
-ghost use Rattle.refusals.specs.Writing.{afterWriting};
-ghost use Rattle.sheet.specs.Reading.{accepted, reading};
+ghost use Rattle.refusals.specs.Writing.{writeAnswer, writeNumbers, writeOutcome, afterWriting};
+ghost use Rattle.sheet.specs.Reading.{accepted, said, reading};
 ghost use Rattle.sheet.specs.Index.{Indexed};
-ghost use Rattle.limits.specs.Limits.{setByNumber, setByOf, limitBytes, limiting, limitAnswer, limitNumbers, limitOutcome};
+ghost use Rattle.limits.specs.Limits.{setByNumber, setByOf, limitBytes, limiting};
 use line::Limit;
 use line::SetBy;
 use refusals::Refusal;
+use refusals::WriteAnswer;
 use rows::Header;
 use sheet::Read;
 use sizes::LIMIT_BYTES;
 use sizes::TONES;
 use sizes::WORDS;
-
-// What the call answers: that the limits are written, or why it is refused.
-pub enum Limited {
-    Written,
-    Refused(Refusal),
-}
 
 // The number of what set a limit.
 fn number_of(by: SetBy) -> u8
@@ -70,7 +65,7 @@ fn put_limits(
 )
     requires { ⌜ Indexed (now s) header (now places) (now rests) (now maps) ⌝ }
     requires { ⌜ limitBytesATone * header .size ≤ length (now out) ⌝ }
-    ensures { λ r. ⌜ ((l : Line) → reading (before s) ≡ accepted l → after out ≡ sets (before out) 0 (limitBytes l)) ⌝ }
+    ensures { λ r. ⌜ ((l : Line) → said (before s) ≡ accepted l → after out ≡ sets (before out) 0 (limitBytes l)) ⌝ }
 {
     let gap = header.gap;
     let parts = gaps::parts(gap);
@@ -86,9 +81,9 @@ fn put_limits(
 }
 
 // Writes the limit of each tone of a sheet, and what set it, to the start of a lent buffer.
-pub fn limits(s: &[u8], out: &mut [u8]) -> Limited
-    ensures answer { λ r. ⌜ r ≡ limitAnswer (limiting (reading (before s)) (length (before out))) ⌝ }
-    ensures numbers { λ r. ⌜ limitNumbers r ≡ limitOutcome (limiting (reading (before s)) (length (before out))) ⌝ }
+pub fn limits(s: &[u8], out: &mut [u8]) -> WriteAnswer
+    ensures answer { λ r. ⌜ r ≡ writeAnswer (limiting (reading (before s)) (length (before out))) ⌝ }
+    ensures numbers { λ r. ⌜ writeNumbers r ≡ writeOutcome (limiting (reading (before s)) (length (before out))) ⌝ }
     ensures bytes { λ r. ⌜ after out ≡ afterWriting (limiting (reading (before s)) (length (before out))) (before out) ⌝ }
 {
     let mut places: [u16; TONES] = [0; TONES];
@@ -96,13 +91,13 @@ pub fn limits(s: &[u8], out: &mut [u8]) -> Limited
     let mut maps: [u32; WORDS] = [0; WORDS];
     let read = sheet::read_sheet(s, &mut places, &mut rests, &mut maps);
     match read {
-        Read::Refused(refusal) => Limited::Refused(refusal),
+        Read::Refused(refusal) => WriteAnswer::Refused(refusal),
         Read::Accepted(header) => {
             if out.len() < LIMIT_BYTES * header.size as usize {
-                return Limited::Refused(Refusal::DestinationTooSmall);
+                return WriteAnswer::Refused(Refusal::DestinationTooSmall);
             }
             put_limits(out, s, header, &places, &rests, &maps);
-            Limited::Written
+            WriteAnswer::Written
         }
     }
 }

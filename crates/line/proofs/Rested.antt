@@ -1,17 +1,13 @@
 -- The rests that a tone takes: the test of refusal 15, and the range that it leaves.
 -- Assumes nothing.
-use mathlib.Core.Bool.{Bool, true, false, _&&_, true≢false}
-use mathlib.Core.Path.{_≡_, refl, sym}
+use mathlib.Core.Bool.{true}
+use mathlib.Core.Path.{_≡_}
 use Prim.Native.Nat.{ℕ}
 use borrow.Author.Tests.{ltb-true, leb-true, lt-ltb, le-leb}
 use lib.Dec.{ltb, leb}
+use Rattle.lists.proofs.Tests.{both-pass}
 use Rattle.line.specs.declared.Tone.{Tone}
 use Rattle.line.specs.Tone.{boundsOf, cost, isRest, RestInRange}
-
--- two tests that both pass
-pub both-pass : (a b : Bool) → (a && b) ≡ true → (a ≡ true) × (b ≡ true)
-both-pass true b e = (refl, e)
-both-pass false b e = absurd (true≢false (sym e))
 
 module _ (g : ℕ) (t : Tone) (rest : ℕ) where
   pub rest-taken : isRest g t rest ≡ true → RestInRange g t rest

@@ -6,14 +6,14 @@ use Prim.Native.Nat.{ℕ, _≤_}
 use Rattle.sizes.specs.Sizes.{mostBitsOfAll}
 use Rattle.steps.specs.Tones.{Tones}
 use Rattle.line.specs.Line.{Line, restTotal, LineInRange, tones}
-use Rattle.line.specs.Arrays.{Arrays, ArraysOf}
+use Rattle.line.specs.Arrays.{Arrays}
 use Rattle.line.proofs.Loads.{line-rising, no-bits-fit}
 use Rattle.line.proofs.Masks.{limits-high}
-use Rattle.line.proofs.Arrays.{line-arrays-in-range, line-describes}
 use Rattle.refusals.specs.declared.Refusal.{Refusal}
 use Rattle.rows.specs.declared.Header.{Header}
 use Rattle.loadings.specs.Loads.{Loading, turned-down, Loadable, SomeTones, ForTones}
 use Rattle.loadings.specs.Refits.{refitUpTo, refitOn, stepOn}
+use Rattle.loadings.proofs.Runs.{line-loadable}
 use Rattle.loadings.proofs.UpTo.{whole-refit, single-step}
 use Rattle.sheet.specs.Reading.{Meaning, accepted, refused, reading}
 use Rattle.sheet.proofs.Sound.{Bytes, accepted-sound, accepted-fits}
@@ -34,24 +34,16 @@ module _ {r : Read} {old new : Arrays} {m : Meaning} (x : TonesOf r old new m) w
 
 -- ---- the loading of a line's tones
 
-pub line-loadable : (l : Line) → LineInRange l → restTotal l ≤ l .budget → {A : Arrays} → ArraysOf l A → Loadable (l .size) (l .budget) A (tones l)
-line-loadable l I fits {A} h = record {
-  in-range = line-arrays-in-range l I A h;
-  describes = line-describes l I A h;
-  rising = line-rising l I;
-  none-fits = no-bits-fit l (l .budget) fits;
-}
-
-module _ {h : Header} {A : Arrays} {m : Meaning} (x : HeldLine h A m) where
+module _ (s : List ℕ) {h : Header} {A : Arrays} (x : HeldLine h A (reading s)) where
   held-loadable : Loadable (h .size) (h .budget) A (tones (x .line))
-  held-loadable = rw (← x .header-is) (line-loadable (x .line) (x .in-range) (x .fits) (x .arrays-of))
+  held-loadable = rw (← x .header-is) (line-loadable (x .line) (x .in-range) (x .line .budget) (accepted-fits s (x .line) (x .means)) (x .arrays-of))
 
   pub some-tones : SomeTones (h .size) (h .budget) A
   some-tones = record { tones = tones (x .line); loadable = held-loadable }
 
   -- what holds of all tones that the arrays describe holds of the line's, within the line's budget
   pub on-held : (P : ((room : ℕ) → Loading) → Type 0) (on : Tones → (budget room : ℕ) → Loading)
-      → ForTones (h .size) (h .budget) A (λ T. P (on T (h .budget))) → P (λ room. onLine m (λ T budget. on T budget room))
+      → ForTones (h .size) (h .budget) A (λ T. P (on T (h .budget))) → P (λ room. onLine (reading s) (λ T budget. on T budget room))
   on-held P on f = rw (x .means) (rw (← x .header-is) at (f (tones (x .line)) held-loadable))
 
 -- a sheet that was refused

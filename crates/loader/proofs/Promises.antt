@@ -31,16 +31,18 @@ use Rattle.loader.specs.Calls.{loadMost, loadTarget, refit, oneStep, ref
 use Rattle.loader.specs.Claims.{MostBits, MostBitsOn, SameLoading, Demand3On, TargetMet, TargetOn, TidyOn}
 use Rattle.loader.proofs.Outcomes.{whole, single}
 
+-- an accepted sheet is loaded for most bits where its table has room
+pub most-is : (sheet : List ℕ) (room : ℕ) (l : Line) → reading sheet ≡ accepted l → bytesATone * l .size ≤ room
+    → loadMost sheet room ≡ loaded (tones l) (mostBits (tones l) (l .budget))
+unfolding loadMost mostOn
+most-is sheet room l e h = simp (e, le-ltb room (bytesATone * l .size) h)
+
 module _ (sheet : List ℕ) (b : Bytes sheet) (l : Line) (e : reading sheet ≡ accepted l) (old new : List ℕ) (h : bytesATone * l .size ≤ length old) where
   in-range : LineInRange l
   in-range = accepted-sound sheet b l e .in-range
 
   rests-fit : restTotal l ≤ l .budget
   rests-fit = accepted-fits sheet l e
-
-  most-is : loadMost sheet (length old) ≡ loaded (tones l) (mostBits (tones l) (l .budget))
-  unfolding loadMost mostOn
-  most-is = simp (e, le-ltb (length old) (bytesATone * l .size) h)
 
   module _ (start : List ℕ) (w : KeepsLimits (tones l) start) where
     D : Demand3 (tones l) (l .budget) start
@@ -57,8 +59,8 @@ module _ (sheet : List ℕ) (b : Bytes sheet) (l : Line) (e : reading sheet ≡ 
 
     pub same-loading : {r : Refitted} → r ≡ refitAnswer (refit sheet start (length old)) → new ≡ afterLoading (refit sheet start (length old)) old → SameLoading sheet start l r old new
     same-loading a n = record {
-      same-bytes = n ∙ ap (λ (x : Loading). afterLoading x old) refit-is ∙ same (λ t. tableBytes (tones l) t ++ drop (bytesATone * l .size) old) ∙ sym (ap (λ (x : Loading). afterLoading x old) most-is);
-      same-totals = rw (refit-is, most-is, D .same-table);
+      same-bytes = n ∙ ap (λ (x : Loading). afterLoading x old) refit-is ∙ same (λ t. tableBytes (tones l) t ++ drop (bytesATone * l .size) old) ∙ sym (ap (λ (x : Loading). afterLoading x old) (most-is sheet (length old) l e h));
+      same-totals = rw (refit-is, most-is sheet (length old) l e h, D .same-table);
       answers = a ∙ ap refitAnswer refit-is ∙ rw (D .same-table);
       runs = D;
     }
@@ -69,8 +71,8 @@ module _ (sheet : List ℕ) (b : Bytes sheet) (l : Line) (e : reading sheet ≡ 
 
   pub most-bits : {r : Loaded} → r ≡ loadAnswer (loadMost sheet (length old)) → new ≡ afterLoading (loadMost sheet (length old)) old → MostBits (tones l) (l .budget) r old new
   most-bits a n = record {
-    answers = a ∙ ap loadAnswer most-is;
-    front = ap (take (bytesATone * l .size)) (n ∙ ap (λ (x : Loading). afterLoading x old) most-is) ∙ take-at _ _ _ (length-entries (tones l) _ (l .size));
+    answers = a ∙ ap loadAnswer (most-is sheet (length old) l e h);
+    front = ap (take (bytesATone * l .size)) (n ∙ ap (λ (x : Loading). afterLoading x old) (most-is sheet (length old) l e h)) ∙ take-at _ _ _ (length-entries (tones l) _ (l .size));
     limits = subst (KeepsLimits (tones l)) (from-none .same-table) (from-none .limits);
     budget-kept = subst (KeepsBudget (tones l) (l .budget)) (from-none .same-table) (from-none .budget-kept);
     best = subst (Best (tones l) (l .budget)) (from-none .same-table) (from-none .best);

@@ -4,16 +4,16 @@ ghost use lib.ListN.{length};
 ghost use Rattle.lists.specs.Lent.{before, after};
 ghost use Rattle.loadings.specs.Loads.{loadAnswer, loadNumbers, loadOutcome, afterLoading};
 ghost use Rattle.loadings.specs.Refits.{refitAnswer, refitNumbers, refitOutcome, RefitsAs};
-ghost use Rattle.refusals.specs.Writing.{afterWriting};
+ghost use Rattle.refusals.specs.Writing.{writeAnswer, writeNumbers, writeOutcome, afterWriting};
 ghost use Rattle.sheet.specs.Reading.{reading};
 ghost use Rattle.sheet.specs.Check.{checking, checkNumbers, checkOutcome};
-ghost use Rattle.limits.specs.Limits.{limiting, limitAnswer, limitNumbers, limitOutcome};
+ghost use Rattle.limits.specs.Limits.{limiting};
 ghost use Rattle.tidy.specs.Tidying.{tidying, tidyAnswer, tidyNumbers, tidyOutcome};
 ghost use Rattle.loader.specs.Calls.{loadMost, loadTarget, refit, oneStep, refitBy};
 ghost use Rattle.loader.specs.Claims.{MostBitsOn, TargetOn, Demand3On, TidyOn};
-use limits::Limited;
 use loadings::Loaded;
 use loadings::Refitted;
+use refusals::WriteAnswer;
 use sheet::Checked;
 use sheet::Read;
 use sizes::MOST_BITS;
@@ -128,9 +128,9 @@ pub fn refit_step(s: &[u8], start: &[u8], table: &mut [u8]) -> Refitted
 }
 
 // Writes the limit of each tone of a sheet, and what set it.
-pub fn limits(s: &[u8], out: &mut [u8]) -> Limited
-    ensures answer { λ r. ⌜ r ≡ limitAnswer (limiting (reading (before s)) (length (before out))) ⌝ }
-    ensures numbers { λ r. ⌜ limitNumbers r ≡ limitOutcome (limiting (reading (before s)) (length (before out))) ⌝ }
+pub fn limits(s: &[u8], out: &mut [u8]) -> WriteAnswer
+    ensures answer { λ r. ⌜ r ≡ writeAnswer (limiting (reading (before s)) (length (before out))) ⌝ }
+    ensures numbers { λ r. ⌜ writeNumbers r ≡ writeOutcome (limiting (reading (before s)) (length (before out))) ⌝ }
     ensures bytes { λ r. ⌜ after out ≡ afterWriting (limiting (reading (before s)) (length (before out))) (before out) ⌝ }
 {
     limits::limits(s, out)

@@ -12,9 +12,11 @@ use Rattle.steps.specs.Tones.{Tones, Table, _!_, noBits, totalBits, totalPower,
 use Rattle.steps.specs.Runs.{Answer, moved, finished, addStep, Ran, follow, run, mostBits, carrying, setBits}
 use Rattle.steps.proofs.Enough.{moves-at-most, most-bits-enough, set-bits-adds, bits-are-moves}
 use Rattle.steps.proofs.Sums.{sum-at-most}
-use Rattle.line.specs.Arrays.{Arrays, limitAt, doublingsAt, RestsInRange, PowersInRange}
+use Rattle.line.specs.Line.{Line, tones, restTotal, LineInRange}
+use Rattle.line.specs.Arrays.{Arrays, limitAt, doublingsAt, RestsInRange, PowersInRange, ArraysOf}
 use Rattle.line.proofs.Powers.{power-high}
-use Rattle.line.proofs.Arrays.{stands-under, limit-small, shift-under}
+use Rattle.line.proofs.Arrays.{stands-under, limit-small, shift-under, line-arrays-in-range, line-describes}
+use Rattle.line.proofs.Loads.{line-rising, no-bits-fit}
 use Rattle.running.specs.declared.Running.{Running}
 use Rattle.running.specs.declared.Progress.{Progress}
 use Rattle.running.specs.declared.Progress.the-variants.{Moved, Finished}
@@ -81,6 +83,17 @@ module _ {count budget : ℕ} {A : Arrays} {T : Tones} (L : Loadable count budge
 
   pub target-run : (target : ℕ) → setBits T budget target ≡ carrying T target (run (addStep T budget) target (noBits T) .table)
   target-run = set-bits-adds T (L .rising) budget (L .none-fits)
+
+-- ---- the tones of a line
+
+-- those of a line in range are loadable within any budget that its rests keep
+pub line-loadable : (l : Line) → LineInRange l → (budget : ℕ) → restTotal l ≤ budget → {A : Arrays} → ArraysOf l A → Loadable (l .size) budget A (tones l)
+line-loadable l I budget fits {A} h = record {
+  in-range = line-arrays-in-range l I A h;
+  describes = line-describes l I A h;
+  rising = line-rising l I;
+  none-fits = no-bits-fit l budget fits;
+}
 
 -- ---- what the last step of a run answers
 

@@ -4,13 +4,13 @@ use mathlib.Core.List.{List}
 use Prim.Native.Nat.{ℕ}
 use lib.ListN.{length}
 use Rattle.refusals.specs.Refusals.{Outcome}
-use Rattle.refusals.specs.Writing.{afterWriting}
+use Rattle.refusals.specs.Writing.{writeOutcome, afterWriting}
 use Rattle.sheet.specs.Reading.{reading}
-use Rattle.limits.specs.Limits.{limiting, limitOutcome}
+use Rattle.limits.specs.Limits.{limiting}
 use Rattle.answers.specs.Answers.{hosted, hostedBuffer}
 
 abbrev pub outsideLimits : (sheet out answer : List ℕ) → Outcome
-outsideLimits sheet out answer = hosted sheet answer (limitOutcome (limiting (reading sheet) (length out)))
+outsideLimits sheet out answer = hosted sheet answer (writeOutcome (limiting (reading sheet) (length out)))
 
 abbrev pub outsideLimited : (sheet out answer : List ℕ) → List ℕ
 outsideLimited sheet out answer = hostedBuffer answer out (afterWriting (limiting (reading sheet) (length out)) out)

@@ -2,20 +2,20 @@
 // Document 02, W7: 'the host keeps only document 01's calls'.
 ghost use mathlib.Core.Path.{_≡_};
 ghost use Rattle.lists.specs.Lent.{before, after};
-ghost use Rattle.limits.specs.Limits.{limitNumbers};
+ghost use Rattle.refusals.specs.Writing.{writeNumbers};
 ghost use Rattle.answers.specs.Answers.{code, answered, Says};
 ghost use Rattle.outside.specs.Outside.{outsideLimits, outsideLimited};
 use answers::Reply;
-use limits::Limited;
+use refusals::WriteAnswer;
 use sizes::ANSWER_BYTES;
 
-// The reply of the limits: they have no answers.
-fn of_limits(limited: Limited) -> Reply
-    ensures { λ r. ⌜ Says r (limitNumbers limited) ⌝ }
+// The reply of a call that only writes: it has no answers.
+fn of_write(answer: WriteAnswer) -> Reply
+    ensures { λ r. ⌜ Says r (writeNumbers answer) ⌝ }
 {
-    match limited {
-        Limited::Refused(why) => answers::of_refusal(why),
-        Limited::Written => Reply {
+    match answer {
+        WriteAnswer::Refused(why) => answers::of_refusal(why),
+        WriteAnswer::Written => Reply {
             returned: 0,
             count: 0,
             first: 0,
@@ -35,5 +35,5 @@ pub extern "C" fn outside_limits(sheet: &[u8], out: &mut [u8], answer: &mut [u8]
         return answers::without_room(sheet);
     }
     let limited = loader::limits(sheet, out);
-    answers::put(of_limits(limited), answer)
+    answers::put(of_write(limited), answer)
 }

@@ -9,7 +9,7 @@ use lib.Seq.{sets}
 use Rattle.lists.proofs.Stores.{from-start}
 use Rattle.refusals.specs.declared.Refusal.{Refusal}
 use Rattle.refusals.specs.declared.Refusal.the-variants.{DestinationTooSmall}
-use Rattle.refusals.specs.Writing.{writes, turned-down, ifFits, afterWriting}
+use Rattle.refusals.specs.Writing.{Writing, writes, turned-down, ifFits, afterWriting, writeAnswer, writeOutcome, writeNumbers}
 
 pub too-small : {room : ℕ} (bytes : List ℕ) → room < length bytes → ifFits room bytes ≡ turned-down DestinationTooSmall
 too-small {room} bytes h = rw (lt-ltb room (length bytes) h)
@@ -23,3 +23,8 @@ stores-are bytes old h = from-start bytes old h
 
 pub untouched : (r : Refusal) (old : List ℕ) → afterWriting (turned-down r) old ≡ old
 untouched r old = refl
+
+-- the answer of a call that only writes, in the paper's numbers, is the outcome
+pub same-numbers : (w : Writing) → writeNumbers (writeAnswer w) ≡ writeOutcome w
+same-numbers (writes bytes) = refl
+same-numbers (turned-down r) = refl

@@ -22,6 +22,12 @@ pub enum Refusal {
     RestsOverBudget,
 }
 
+// What a call answers that only writes: that its bytes are written, or why it is refused.
+pub enum WriteAnswer {
+    Written,
+    Refused(Refusal),
+}
+
 // The number of a refusal in the documents' list.
 pub fn refusal_number(refusal: Refusal) -> u32
     ensures { λ r. ⌜ r ≡ refusalNumber refusal ⌝ }

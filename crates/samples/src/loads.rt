@@ -13,11 +13,11 @@ use crate::printing::print;
 use crate::printing::print_number;
 use crate::printing::print_pair;
 use crate::printing::print_touched;
-use limits::Limited;
 use line::SetBy;
 use loadings::Loaded;
 use loadings::Refitted;
 use refusals::Refusal;
+use refusals::WriteAnswer;
 use refusals::refusal_number;
 use refusals::refusal_place;
 use samplebuffers::ROOM;
@@ -42,7 +42,7 @@ pub(crate) enum Call {
 }
 
 // What a call answers: a refusal's number and place, or number 0 and the totals. A loading has no
-// moves, and the limits have no totals.
+// moves, and the calls that only write have no totals.
 struct Totals {
     number: u32,
     place: u32,
@@ -65,10 +65,10 @@ fn refused(why: Refusal) -> Totals {
     numbered(refusal_number(why), refusal_place(why))
 }
 
-fn limited(answer: Limited) -> Totals {
+fn written(answer: WriteAnswer) -> Totals {
     match answer {
-        Limited::Written => numbered(0, 0),
-        Limited::Refused(why) => refused(why),
+        WriteAnswer::Written => numbered(0, 0),
+        WriteAnswer::Refused(why) => refused(why),
     }
 }
 
@@ -105,7 +105,7 @@ fn made(call: Call, sheet: &[u8], start: &[u8], table: &mut [u8]) -> Totals {
         Call::Target(bits) => loaded(loader::load_target(sheet, bits, table)),
         Call::Refit => refitted(loader::refit(sheet, start, table)),
         Call::Step => refitted(loader::refit_step(sheet, start, table)),
-        Call::Limits => limited(loader::limits(sheet, table)),
+        Call::Limits => written(loader::limits(sheet, table)),
     }
 }
 

@@ -16,10 +16,10 @@ use Rattle.sheet.specs.declared.Checked.{Checked}
 use Rattle.sheet.specs.declared.Checked.the-variants as checked
 use Rattle.sheet.specs.Reading.{Meaning, accepted, refused, reading}
 use Rattle.sheet.specs.Check.{describedCount, silencedCount, checking, checkNumbers, checkOutcome}
-use Rattle.sheet.specs.Index.{Indexes, Indexed}
+use Rattle.sheet.specs.Index.{Indexes}
 use Rattle.sheet.proofs.Sound.{Bytes, Sound}
 use Rattle.sheet.proofs.Notes.{described-here}
-use Rattle.sheet.proofs.Uses.{silenced-here, size-is, line-sound}
+use Rattle.sheet.proofs.Uses.{ReadLine, silenced-here, size-is, line-sound}
 
 module _ {s places rests maps : List ℕ} where
   described-count : {l : Line} → Indexes s places rests maps l → describedCount l ≡ count (l .size) (λ i. ltb 0 (getD places i 0))
@@ -36,12 +36,13 @@ module _ {s places rests maps : List ℕ} where
           let clear : bit (getD (l .maps) (i / wordTones) 0) (i % wordTones) ≡ 0 = z .maps-within (i / wordTones) (i % wordTones) (omega arith) in
           ap (λ (b : ℕ). eqb b 1) clear
 
-  pub counts-are : {h : Header} → Indexed s h places rests maps → Bytes s → {a b : ℕ} → a ≡ count (h .size) (λ i. ltb 0 (getD places i 0)) → b ≡ count mostTones (silenced maps)
+  pub counts-are : {h : Header} → ReadLine s h places rests maps → Bytes s → {a b : ℕ} → a ≡ count (h .size) (λ i. ltb 0 (getD places i 0)) → b ≡ count mostTones (silenced maps)
       → checked.Counts (h .size) a b ≡ checking (reading s)
   counts-are {h} x bytes {a} {b} p q =
-      let size : x .line .size ≡ h .size = size-is x in
-      let described : a ≡ describedCount (x .line) = p ∙ ap (λ (n : ℕ). count n (λ i. ltb 0 (getD places i 0))) (sym size) ∙ sym (described-count (x .indexes)) in
-      let silenced : b ≡ silencedCount (x .line) = q ∙ sym (silenced-count (x .indexes) (line-sound x bytes)) in
+      let l = x .index .line in
+      let size : l .size ≡ h .size = size-is (x .index) in
+      let described : a ≡ describedCount l = p ∙ ap (λ (n : ℕ). count n (λ i. ltb 0 (getD places i 0))) (sym size) ∙ sym (described-count (x .index .indexes)) in
+      let silenced : b ≡ silencedCount l = q ∙ sym (silenced-count (x .index .indexes) (line-sound (x .index) bytes)) in
       rw (x .means) (cc)
 
 -- a check's answer, in the paper's numbers, is the outcome that the reading gives

@@ -15,8 +15,8 @@ use Rattle.sizes.specs.Sizes.{mostTones, mostWords, wordTones, wordsOf}
 use Rattle.lists.proofs.Stores.{all-same, after-store}
 use Rattle.silence.specs.Map.{namesBeyond, joined}
 use Rattle.silence.proofs.Maps.{beyond-zero}
+use Rattle.lists.proofs.Tests.{both-pass}
 use Rattle.line.specs.Line.{undescribed, described, isDescribed, withRest, Line, entryOf}
-use Rattle.line.proofs.Rested.{both-pass}
 use Rattle.rows.specs.declared.Header.{Header}
 use Rattle.rows.specs.declared.Command.the-variants.{Describe, Rest, Silence}
 use Rattle.places.specs.Places.{toneAt, restAt, entryAt}

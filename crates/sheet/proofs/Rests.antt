@@ -25,6 +25,12 @@ rests-kept budget l h = rw (le-ltb budget (restTotal l) h)
 pub rests-over : (budget : ℕ) (l : Line) → budget < restTotal l → restsWithin budget l ≡ refused RestsOverBudget
 rests-over budget l h = rw (lt-ltb budget (restTotal l) h)
 
+-- what is accepted within a budget is the line that was judged, and its rests keep it
+pub within-budget : (budget : ℕ) (k l : Line) → restsWithin budget k ≡ accepted l → (k ≡ l) × (restTotal k ≤ budget)
+within-budget budget k l =
+    by-test (λ (m : Meaning). m ≡ accepted l → (k ≡ l) × (restTotal k ≤ budget)) (ltb budget (restTotal k)) (λ t e. never e)
+    (λ t e. (cc, ltb-false budget (restTotal k) t))
+
 -- what is accepted is what the bytes say, and its rests keep the budget
 pub record Accepted (F : Format) (s : List ℕ) (l : Line) : Type 0 where
   pub says : saidIn F s ≡ accepted l
@@ -37,12 +43,9 @@ accepted-is F s l e = by (saidIn F s) refl e
     by : (m : Meaning) → saidIn F s ≡ m → restsJudged m ≡ accepted l → Accepted F s l
     by (refused q) is f = never f
     by (accepted k) is f =
-        by-test (λ (m : Meaning). m ≡ accepted l → Accepted F s l) (ltb (k .budget) (restTotal k)) (λ t g. never g)
-        (λ t g.
-        let same : k ≡ l = cc in
-        let here : Accepted F s k = record { says = is; fits = ltb-false (k .budget) (restTotal k) t } in
-        rw same at here)
-        f
+        let kept = within-budget (k .budget) k l f in
+        let here : Accepted F s k = record { says = is; fits = kept .1 } in
+        rw (kept .0) at here
 
 module _ (F : Format) (s : List ℕ) where
   pub is-accepted : (l : Line) → saidIn F s ≡ accepted l → restTotal l ≤ l .budget → readingIn F s ≡ accepted l

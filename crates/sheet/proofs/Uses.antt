@@ -22,13 +22,18 @@ use Rattle.sheet.specs.declared.Read.the-variants as read
 use Rattle.sheet.specs.Reading.{Meaning, accepted, refused, headerOf, restsWithin, said, reading}
 use Rattle.sheet.specs.Index.{Indexes, Leaves, ReadsAs, Indexed, answerOf}
 use Rattle.sheet.proofs.Turns.{ReadingEnds}
-use Rattle.sheet.proofs.Sound.{Bytes, Sound, said-sound, accepted-sound, accepted-fits}
+use Rattle.sheet.proofs.Sound.{Bytes, Sound, said-sound}
 use Rattle.sheet.proofs.Rests.{rests-kept, rests-over, accepted-is, reading-said}
 
 -- what the bytes say, with 16 judged
 pub record Judged (s places rests maps : List ℕ) (r : Read) : Type 0 where
   pub answers : r ≡ answerOf (reading s)
   pub index : (l : Line) → reading s ≡ accepted l → Indexes s places rests maps l
+
+-- the index of a sheet that is accepted
+pub record ReadLine (s : List ℕ) (h : Header) (places rests maps : List ℕ) : Type 0 where
+  pub index : Indexed s h places rests maps
+  pub means : reading s ≡ accepted (index .line)
 
 -- what judging the rests promises
 pub record JudgesRests (s rests maps : List ℕ) (r′ r : Read) : Type 0 where
@@ -38,17 +43,24 @@ pub record JudgesRests (s rests maps : List ℕ) (r′ r : Read) : Type 0 where
 module _ {s places rests maps : List ℕ} where
   -- ---- what reading answers and leaves
 
-  -- the size of a line that the bytes say
-  pub said-small : Bytes s → {r : Read} → ReadingEnds s r places rests maps → (h : Header) → r ≡ read.Accepted h → h .size ≤ mostTones
-  said-small bytes {r} x h e = by (said s) refl (sym (x .0) ∙ e)
+  -- what the bytes say
+  pub said-line : {r : Read} {h : Header} → ReadingEnds s r places rests maps → r ≡ read.Accepted h → Indexed s h places rests maps
+  said-line {r} {h} x e = by (said s) refl (sym (x .0) ∙ e)
     where
-      by : (m : Meaning) → said s ≡ m → answerOf m ≡ read.Accepted h → h .size ≤ mostTones
-      by (accepted l) is f =
-          let same : headerOf l ≡ h = cc in
-          omega (arith, said-sound s bytes l is .in-range .size-high, ap (λ (k : Header). k .size) same)
+      by : (m : Meaning) → said s ≡ m → answerOf m ≡ read.Accepted h → Indexed s h places rests maps
+      by (accepted l) is f = record { line = l; means = is; header-is = cc; indexes = x .1 l is }
       by (refused q) is f =
           let z : _≡_ {A = ℕ} 0 1 = cc in
           absurd (omega arith)
+
+  pub said-refused : {r : Read} {q : Refusal} → ReadingEnds s r places rests maps → r ≡ read.Refused q → said s ≡ refused q
+  said-refused {r} {q} x e = by (said s) (sym (x .0) ∙ e)
+    where
+      by : (m : Meaning) → answerOf m ≡ read.Refused q → m ≡ refused q
+      by (accepted l) f =
+          let z : _≡_ {A = ℕ} 0 1 = cc in
+          absurd (omega arith)
+      by (refused q′) f = cc
 
   pub judges : {r′ r : Read} → ReadingEnds s r′ places rests maps → JudgesRests s rests maps r′ r → Judged s places rests maps r
   judges {r′} {r} x j = record { answers = by (said s) refl; index = λ l e. x .1 l (accepted-is today s l e .says) }
@@ -78,11 +90,14 @@ module _ {s places rests maps : List ℕ} where
 
   -- ---- what a caller learns of it
 
-  pub indexed : {r : Read} {h : Header} → ReadsAs s r places rests maps (reading s) → r ≡ read.Accepted h → Indexed s h places rests maps
-  indexed {r} {h} x e = by (reading s) refl (x .leaves)
+  pub read-line : {r : Read} {h : Header} → ReadsAs s r places rests maps (reading s) → r ≡ read.Accepted h → ReadLine s h places rests maps
+  read-line {r} {h} x e = by (reading s) refl (x .leaves)
     where
-      by : (m : Meaning) → reading s ≡ m → Leaves s r places rests maps m → Indexed s h places rests maps
-      by (accepted l) means y = record { line = l; means = means; header-is = cc (y .0); indexes = y .1 }
+      by : (m : Meaning) → reading s ≡ m → Leaves s r places rests maps m → ReadLine s h places rests maps
+      by (accepted l) means y = record {
+        index = record { line = l; means = accepted-is today s l means .says; header-is = cc (y .0); indexes = y .1 };
+        means = means;
+      }
       by (refused q) means y =
           let z : _≡_ {A = ℕ} 0 1 = cc (y .0) in
           absurd (omega arith)
@@ -95,12 +110,6 @@ module _ {s places rests maps : List ℕ} where
           let z : _≡_ {A = ℕ} 0 1 = cc (y .0) in
           absurd (omega arith)
       by (refused q′) y = cc (y .0)
-
-  pub accepted-case : {h : Header} (P : Meaning → Type 0) → Indexed s h places rests maps → ((l : Line) → headerOf l ≡ h → Indexes s places rests maps l → P (accepted l)) → P (reading s)
-  accepted-case P x f = rw (x .means) (f (x .line) (x .header-is) (x .indexes))
-
-  pub refused-case : {r : Read} {q : Refusal} (P : Meaning → Type 0) → ReadsAs s r places rests maps (reading s) → r ≡ read.Refused q → P (refused q) → P (reading s)
-  refused-case P x e p = rw (refused-is x e) p
 
   -- ---- what an index says of its line
 
@@ -117,6 +126,9 @@ module _ {s places rests maps : List ℕ} where
         sent zero rest false h = rw (h refl)
         sent (suc p) rest false h = refl
 
+    pub total-is : {size total : ℕ} → l .size ≡ size → total ≡ restsSent s rests maps size → restTotal l ≡ total
+    total-is e sum-is = rests-here ∙ ap (λ (n : ℕ). restsSent s rests maps n) e ∙ sym sum-is
+
   module _ {h : Header} (x : Indexed s h places rests maps) where
     pub size-is : x .line .size ≡ h .size
     size-is = ap (λ (k : Header). k .size) (x .header-is)
@@ -129,16 +141,17 @@ module _ {s places rests maps : List ℕ} where
 
     module _ (bytes : Bytes s) where
       pub line-sound : Sound (x .line)
-      line-sound = accepted-sound s bytes (x .line) (x .means)
+      line-sound = said-sound s bytes (x .line) (x .means)
 
       pub line-in-range : LineInRange (x .line)
       line-in-range = line-sound .in-range
 
-      pub line-fits : restTotal (x .line) ≤ x .line .budget
-      line-fits = accepted-fits s (x .line) (x .means)
-
       pub size-high : h .size ≤ mostTones
       size-high = omega (arith, size-is, line-in-range .size-high)
+
+  -- the size of a line that the bytes say
+  pub said-small : Bytes s → {r : Read} → ReadingEnds s r places rests maps → (h : Header) → r ≡ read.Accepted h → h .size ≤ mostTones
+  said-small bytes x h e = size-high (said-line x e) bytes
 
 -- ---- judging the rests
 
@@ -157,14 +170,14 @@ module _ {s rests maps : List ℕ} {r : Read} where
 
   module _ {h : Header} {total : ℕ} (e : r ≡ read.Accepted h) (sum-is : total ≡ restsSent s rests maps (h .size)) where
     -- what was added up is what the rests of the line do
-    total-is : (l : Line) (places : List ℕ) → headerOf l ≡ h → Indexes s places rests maps l → restTotal l ≡ total
-    total-is l places f x = rests-here x ∙ ap (λ (k : Header). restsSent s rests maps (k .size)) f ∙ sym sum-is
+    line-total : (l : Line) (places : List ℕ) → headerOf l ≡ h → Indexes s places rests maps l → restTotal l ≡ total
+    line-total l places f x = total-is x (ap (λ (k : Header). k .size) f) sum-is
 
     pub judged-over : h .budget < total → JudgesRests s rests maps r (read.Refused RestsOverBudget)
     judged-over over = record {
       of-line = λ l places f x.
           let is : headerOf l ≡ h = same-header e f in
-          ap answerOf (sym (rests-over (l .budget) l (omega (arith, total-is l places is x, ap (λ (k : Header). k .budget) is))));
+          ap answerOf (sym (rests-over (l .budget) l (omega (arith, line-total l places is x, ap (λ (k : Header). k .budget) is))));
       of-refusal = λ q f. not-both e f;
     }
 
@@ -172,6 +185,6 @@ module _ {s rests maps : List ℕ} {r : Read} where
     judged-kept kept = record {
       of-line = λ l places f x.
           let is : headerOf l ≡ h = same-header e f in
-          ap read.Accepted (sym is) ∙ ap answerOf (sym (rests-kept (l .budget) l (omega (arith, total-is l places is x, ap (λ (k : Header). k .budget) is))));
+          ap read.Accepted (sym is) ∙ ap answerOf (sym (rests-kept (l .budget) l (omega (arith, line-total l places is x, ap (λ (k : Header). k .budget) is))));
       of-refusal = λ q f. not-both e f;
     }

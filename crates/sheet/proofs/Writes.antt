@@ -9,8 +9,9 @@ use Rattle.line.specs.Line.{Line}
 use Rattle.refusals.specs.declared.Refusal.{Refusal}
 use Rattle.refusals.specs.declared.Refusal.the-variants.{DestinationTooSmall}
 use Rattle.refusals.specs.Refusals.{Outcome}
-use Rattle.refusals.specs.Writing.{Writing, writes, turned-down, afterWriting}
-use Rattle.refusals.proofs.Writing.{too-small, fits, stores-are, untouched}
+use Rattle.refusals.specs.declared.WriteAnswer.{WriteAnswer}
+use Rattle.refusals.specs.Writing.{Writing, writes, turned-down, afterWriting, writeAnswer, writeNumbers, writeOutcome}
+use Rattle.refusals.proofs.Writing.{too-small, fits, stores-are, untouched, same-numbers}
 use Rattle.sheet.specs.Reading.{Meaning, accepted, refused}
 use Rattle.sheet.specs.Writes.{writing}
 
@@ -22,6 +23,10 @@ pub record WritingCall (A : Type 0) : Type 1 where
   pub outcome : Writing → Outcome
   pub same : (w : Writing) → numbers (answer w) ≡ outcome w
 
+-- one that answers nothing but that the bytes are written
+abbrev pub only-writes : (bytes : Line → List ℕ) → WritingCall WriteAnswer
+only-writes bytes = record { bytes = bytes; answer = writeAnswer; numbers = writeNumbers; outcome = writeOutcome; same = same-numbers }
+
 module _ {A : Type 0} (C : WritingCall A) where
   -- its answer, that in the paper's numbers, and the buffer
   abbrev pub EndsAt : Writing → (out after : List ℕ) → A → Type 0
@@ -30,7 +35,7 @@ module _ {A : Type 0} (C : WritingCall A) where
   abbrev pub Ends : Meaning → (out after : List ℕ) → A → Type 0
   Ends x out after r = EndsAt (writing (C .bytes) x (length out)) out after r
 
-  ends-at : (w : Writing) (out : List ℕ) {after : List ℕ} {r : A} → r ≡ C .answer w → after ≡ afterWriting w out → EndsAt w out after r
+  pub ends-at : (w : Writing) (out : List ℕ) {after : List ℕ} {r : A} → r ≡ C .answer w → after ≡ afterWriting w out → EndsAt w out after r
   ends-at w out a b = (a, (ap (C .numbers) a ∙ C .same w, b))
 
   pub refused-ends : {x : Meaning} (q : Refusal) (out : List ℕ) {r : A} → x ≡ refused q → r ≡ C .answer (turned-down q) → Ends x out out r

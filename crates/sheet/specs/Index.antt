@@ -12,7 +12,7 @@ use Rattle.rows.specs.Codes.{ToneCode, commandBytes}
 use Rattle.places.specs.Places.{entryAt}
 use Rattle.sheet.specs.declared.Read.{Read}
 use Rattle.sheet.specs.declared.Read.the-variants as read
-use Rattle.sheet.specs.Reading.{Meaning, accepted, refused, headerOf, reading}
+use Rattle.sheet.specs.Reading.{Meaning, accepted, refused, headerOf, said}
 
 -- the command of tone i stands at a place: its byte, its tone, and all of its bytes
 pub record ToneStands (s : List ℕ) (i place : ℕ) : Type 0 where
@@ -52,9 +52,9 @@ Leaves s r places rests maps (refused q) =
 pub record ReadsAs (s : List ℕ) (r : Read) (places rests maps : List ℕ) (m : Meaning) : Type 0 where
   pub leaves : Leaves s r places rests maps m
 
--- What a call that goes on from an index asks for: that it came from reading this sheet, and was accepted with this header.
+-- What a call that goes on from an index asks for: that the bytes of this sheet say a line with this header, and that the arrays index it.
 pub record Indexed (s : List ℕ) (h : Header) (places rests maps : List ℕ) : Type 0 where
   pub line : Line
-  pub means : reading s ≡ accepted line
+  pub means : said s ≡ accepted line
   pub header-is : headerOf line ≡ h
   pub indexes : Indexes s places rests maps line

@@ -30,7 +30,7 @@ pub enum Read {
 
 // Reads the commands of a sheet one after the other, and notes where each tone's stands, where its rest's does, and which tones the maps
 // silence: what the bytes say. After a refusal the arrays are as far as it was read.
-fn read_commands(
+pub fn read_commands(
     s: &[u8],
     places: &mut [u16; TONES],
     rests: &mut [u16; TONES],

@@ -2,12 +2,12 @@
 -- refusal 10.
 -- Assumes nothing.
 use mathlib.Core.List.{List}
-use mathlib.Core.Logic.{ite}
 use mathlib.Core.Option.{Option, none, some}
 use mathlib.Core.Path.{_≡_}
-use Prim.Native.Nat.{ℕ, zero, suc, _<_}
-use native.Mathlib.Decide.{decLt}
+use Prim.Native.Nat.{ℕ, _<_}
+use lib.Dec.{ltb}
 use lib.ListN.{length, getD}
+use Rattle.lists.specs.First.{first}
 use Rattle.steps.specs.Tones.{Tones, Rising, Table, _!_, noBits, KeepsLimits}
 use Rattle.line.specs.Arrays.{Arrays, Describes}
 use Rattle.running.specs.declared.Running.{Running}
@@ -15,16 +15,9 @@ use Rattle.running.specs.Running.{Stands}
 use Rattle.starts.specs.declared.Above.{Above}
 use Rattle.starts.specs.declared.Above.the-variants.{Nowhere, Tone}
 
--- the first of two that is there
-unfoldable pub orElse : Option ℕ → Option ℕ → Option ℕ
-orElse (some i) o = some i
-orElse none o = o
-
 -- 'the first such tone': of the tones below n, the first with more bits than its limit
 unfoldable pub firstAbove : Tones → Table → (n : ℕ) → Option ℕ
-unfolding orElse
-firstAbove T t zero = none
-firstAbove T t (suc n) = orElse (firstAbove T t n) (ite (decLt (T .limit n) (t ! n)) (some n) none)
+firstAbove T t n = first (λ i. ltb (T .limit i) (t ! i)) n
 
 -- an array has the limits of the first n tones
 pub record SameLimits (T : Tones) (limits : List ℕ) (n : ℕ) : Type 0 where

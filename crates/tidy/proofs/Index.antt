@@ -9,7 +9,7 @@ use lib.Seq.{sets}
 use Rattle.sizes.specs.Sizes.{mostWords, wordsOf, endCommand}
 use Rattle.line.specs.Line.{Line}
 use Rattle.rows.specs.declared.Header.{Header}
-use Rattle.sheet.specs.Reading.{accepted, headerOf, reading}
+use Rattle.sheet.specs.Reading.{accepted, headerOf, said}
 use Rattle.sheet.specs.Index.{Indexed}
 use Rattle.sheet.proofs.Sound.{Bytes}
 use Rattle.sheet.proofs.Uses.{size-is, line-sound, line-in-range}
@@ -34,7 +34,7 @@ module _ {s places rests maps : List ℕ} {h : Header} (x : Indexed s h places r
     words-are = maps-are (x .line) (line-sound x b) (x .indexes)
 
     -- for the line that the sheet means
-    module _ (l : Line) (e : reading s ≡ accepted l) where
+    module _ (l : Line) (e : said s ≡ accepted l) where
       is-line : l ≡ x .line
       is-line = cc (x .means)
 

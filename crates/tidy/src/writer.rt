@@ -6,7 +6,7 @@ ghost use lib.Seq.{sets};
 ghost use Rattle.sizes.specs.Sizes.{mostTones, mostWords};
 ghost use Rattle.lists.specs.Lent.{before, after};
 ghost use Rattle.line.specs.Line.{Line};
-ghost use Rattle.sheet.specs.Reading.{accepted, reading};
+ghost use Rattle.sheet.specs.Reading.{accepted, said};
 ghost use Rattle.sheet.specs.Index.{Indexed};
 ghost use Rattle.tidyform.specs.Tidy.{wordBytes, mapBytes, gapBytes, headBytes, tidy};
 ghost use Rattle.tidy.specs.Copies.{part, Inside, RestInside, entryCopy, copies};
@@ -149,8 +149,8 @@ pub(crate) fn put_line(
     maps: &[u32; WORDS],
 )
     requires { ⌜ Indexed (now s) header (now places) (now rests) (now maps) ⌝ }
-    requires { ⌜ ((l : Line) → reading (now s) ≡ accepted l → length (tidy l) ≤ length (now out)) ⌝ }
-    ensures { λ r. ⌜ ((l : Line) → reading (before s) ≡ accepted l → after out ≡ sets (before out) 0 (tidy l)) ⌝ }
+    requires { ⌜ ((l : Line) → said (now s) ≡ accepted l → length (tidy l) ≤ length (now out)) ⌝ }
+    ensures { λ r. ⌜ ((l : Line) → said (before s) ≡ accepted l → after out ≡ sets (before out) 0 (tidy l)) ⌝ }
 {
     let header_end = put_header(out, header);
     let tones_end = put_tones(s, header.size, places, rests, out, header_end);

@@ -11,7 +11,7 @@ use Rattle.loader.proofs.load_most.Tie as tie
 most-requires : tie.Need-most-requires
 most-requires c κs =
     let k = c .before .before .before .before .before .before in
-    some-tones (held (k .before .before .read-tones .ensures) (k .read2 .given .1))
+    some-tones (k .before .before .before .before .before .before .before .before .before .args .s .now) (held (k .before .before .read-tones .ensures) (k .read2 .given .1))
 
 returns : tie.Need-returns
 unfolding loadMost
@@ -28,7 +28,7 @@ returns-2 c =
     let k = t .before .before .before .before .before .before in
     let a = k .before .args in
     most-call (a .s .now) (λ i. k .shared-slice-known .given i .fits) (a .table .now) _
-    (on-held (held (t .read-tones .ensures) (c .before .before .before .before .before .before .before .before .before .read2 .given .1)) (LoadsAs _ _ _) mostOn (c .before .before .most .ensures))
+    (on-held (a .s .now) (held (t .read-tones .ensures) (c .before .before .before .before .before .before .before .before .before .read2 .given .1)) (LoadsAs _ _ _) mostOn (c .before .before .most .ensures))
 
 pub load-most-spec : {M : Type 1} → statement M
 load-most-spec =

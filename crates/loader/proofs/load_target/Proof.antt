@@ -11,7 +11,7 @@ use Rattle.loader.proofs.load_target.Tie as tie
 target-requires : tie.Need-target-requires
 target-requires c κs =
     let k = c .before .before .before .before .before .before in
-    some-tones (held (k .before .before .read-tones .ensures) (k .read2 .given .1))
+    some-tones (k .before .before .before .before .before .before .before .before .before .args .s .now) (held (k .before .before .read-tones .ensures) (k .read2 .given .1))
 
 returns : tie.Need-returns
 unfolding loadTarget
@@ -28,7 +28,7 @@ returns-2 c =
     let k = t .before .before .before .before .before .before in
     let a = k .before .args in
     target-call (a .s .now) (λ i. k .shared-slice-known .given i .fits) (a .table .now) _ (a .target)
-    (on-held (held (t .read-tones .ensures) (c .before .before .before .before .before .before .before .before .before .read2 .given .1)) (LoadsAs _ _ _) (λ T budget. targetOn T budget (a .target)) (c .before .before .target .ensures))
+    (on-held (a .s .now) (held (t .read-tones .ensures) (c .before .before .before .before .before .before .before .before .before .read2 .given .1)) (LoadsAs _ _ _) (λ T budget. targetOn T budget (a .target)) (c .before .before .target .ensures))
 
 pub load-target-spec : {M : Type 1} → statement M
 load-target-spec =

@@ -10,7 +10,7 @@ use Rattle.loader.proofs.refit_up_to.Tie as tie
 refit-requires : tie.Need-refit-requires
 refit-requires c κs =
     let k = c .before .before .before .before .before .before in
-    some-tones (held (k .before .before .read-tones .ensures) (k .read2 .given .1))
+    some-tones (k .before .before .before .before .before .before .before .before .before .before .args .s .now) (held (k .before .before .read-tones .ensures) (k .read2 .given .1))
 
 returns : tie.Need-returns
 unfolding refitBy
@@ -23,7 +23,7 @@ returns-2 : tie.Need-returns-2
 unfolding refitBy
 returns-2 c =
     let k = c .before .before .before .before .before .before .before .before .before in
-    on-held (held (k .before .before .read-tones .ensures) (k .read2 .given .1)) (RefitsAs _ _ _) (λ T budget. refitUpTo _ T budget _) (c .before .before .refit .ensures)
+    on-held (k .before .before .before .before .before .before .before .before .before .before .args .s .now) (held (k .before .before .read-tones .ensures) (k .read2 .given .1)) (RefitsAs _ _ _) (λ T budget. refitUpTo _ T budget _) (c .before .before .refit .ensures)
 
 pub refit-up-to-spec : {M : Type 1} → statement M
 refit-up-to-spec =

@@ -15,7 +15,7 @@ returns-2 c =
     let said = c .before .before .before .before in
     let called = said .before .before .before in
     let e = called .limits .ensures in
-    long-writes _ _ (called .before .before .if1 .left) (e .1 .0) (said .of-limits .ensures) (c .before .before .put .ensures) _ (e .1 .1)
+    long-writes _ _ (called .before .before .if1 .left) (e .1 .0) (said .of-write .ensures) (c .before .before .put .ensures) _ (e .1 .1)
 
 pub outside-limits-spec : {M : Type 1} → statement M
 outside-limits-spec =

@@ -4,9 +4,8 @@ use Prim.Native.Nat.{_+_}
 use native.Mathlib.Omega.{arith}
 use lib.ListN.{length}
 use Rattle.line.specs.Line.{Line}
-use Rattle.sheet.specs.Reading.{accepted, reading}
-use Rattle.sheet.specs.Index.{Indexed}
-use Rattle.sheet.proofs.Uses.{indexed, refused-is, size-high}
+use Rattle.sheet.specs.Reading.{accepted, said}
+use Rattle.sheet.proofs.Uses.{ReadLine, read-line, refused-is, size-high}
 use Rattle.sheet.proofs.Writes.{refused-ends, short-ends, written-ends}
 use Rattle.tidyform.specs.Tidy.{tidy}
 use Rattle.tidyform.proofs.Length.{length-head}
@@ -23,19 +22,19 @@ begun c = c .before .before .before .before .before .before .before .before
 
 -- the arrays index the line that the sheet means
 index : (c : tie.After-read2) → (let r = c .before .before .read-sheet .last .1 in
-    Indexed (begun c .args .s .now) (c .read2 .given .0 .0) (r .0) (r .1 .0) (r .1 .1 .0))
-index c = indexed (c .before .before .read-sheet .ensures) (c .read2 .given .1)
+    ReadLine (begun c .args .s .now) (c .read2 .given .0 .0) (r .0) (r .1 .0) (r .1 .1 .0))
+index c = read-line (c .before .before .read-sheet .ensures) (c .read2 .given .1)
 
 -- where its reading was accepted, from where all was counted
 abbrev accepted-at : tie.After-words-bytes → tie.After-read2
 accepted-at c = c .before .before .before .before .before .before .before
 
 -- what is counted is the length of its tidy form
-counted : (c : tie.After-words-bytes) (l : Line) → reading (begun (accepted-at c) .args .s .now) ≡ accepted l
+counted : (c : tie.After-words-bytes) (l : Line) → said (begun (accepted-at c) .args .s .now) ≡ accepted l
     → 13 + c .before .before .before .before .before .gap-bytes .result + c .before .before .tones-bytes .result + c .words-bytes .result ≡ length (tidy l)
 counted c l e =
     let k = accepted-at c .before .before .before .before .before .before .before in
-    let bytes = tidy-bytes (index (accepted-at c)) (λ i. k .shared-slice-known .given i .fits) l e in
+    let bytes = tidy-bytes (index (accepted-at c) .index) (λ i. k .shared-slice-known .given i .fits) l e in
     omega (
       arith,
       bytes,
@@ -48,19 +47,19 @@ counted c l e =
 tones-bytes-requires : tie.Need-tones-bytes-requires
 tones-bytes-requires c κs =
     let r = c .before .before .before .before in
-    let x = index r in
+    let x = index r .index in
     (size-high x (λ i. r .before .before .before .before .before .before .before .shared-slice-known .given i .fits), (tones-inside x, rests-inside x))
 
 returns : tie.Need-returns
 returns c =
     let n = c .before in
     let x = index (accepted-at n) in
-    short-ends tidy-writes (x .means) (begun (accepted-at n) .args .out .now) (omega (arith, counted n (x .line) (x .means), c .if1 .taken)) refl
+    short-ends tidy-writes (x .means) (begun (accepted-at n) .args .out .now) (omega (arith, counted n (x .index .line) (x .index .means), c .if1 .taken)) refl
 
 put-line-requires : tie.Need-put-line-requires
 put-line-requires c κs =
     let i = c .before .before .before .before in
-    (index (accepted-at (i .before)), λ l e. omega (arith, counted (i .before) l e, i .if1 .left))
+    (index (accepted-at (i .before)) .index, λ l e. omega (arith, counted (i .before) l e, i .if1 .left))
 
 returns-2 : tie.Need-returns-2
 returns-2 c = refused-ends tidy-writes _ (c .before .before .before .before .before .before .before .before .before .args .out .now) (refused-is (c .before .before .before .read-sheet .ensures) (c .before .read .given .1)) refl
@@ -70,9 +69,9 @@ returns-3 c =
     let i = c .before .before .before .before .before .before .before in
     let n = i .before in
     let x = index (accepted-at n) in
-    let length-is = counted n (x .line) (x .means) in
+    let length-is = counted n (x .index .line) (x .index .means) in
     let w = written-ends tidy-writes (x .means) (begun (accepted-at n) .args .out .now) (omega (arith, length-is, i .if1 .left)) (ap Length length-is) in
-    (w .0, (w .1 .0, c .before .before .put-line .ensures (x .line) (x .means) ∙ w .1 .1))
+    (w .0, (w .1 .0, c .before .before .put-line .ensures (x .index .line) (x .index .means) ∙ w .1 .1))
 
 pub tidy-spec : {M : Type 1} → statement M
 tidy-spec =
