@@ -10,7 +10,7 @@ use lib.Seq.{sets, length-sets, take-suc}
 use Rattle.lists.proofs.Stores.{from-start}
 use Rattle.bigendian.specs.Number.{bytes, withNumber}
 use Rattle.bigendian.proofs.Numbers.{length-bytes, number-fits}
-use Rattle.bigendian.proofs.Stores.{sets-append}
+use Rattle.lists.proofs.Stores.{sets-append}
 use Rattle.refusals.specs.declared.Refusal.{Refusal}
 use Rattle.refusals.specs.declared.Refusal.the-variants.{SheetTooLong, SheetEnds, CommandNotAllowed, OperandOutOfRange, ToneBeyondLine, ToneRepeated, BytesAfterEnd, DestinationTooSmall, StartLengthWrong, StartAboveLimit, TargetNotCarried, FloatOutOfRange, CostOutOfRange, ToneCannotTake, RestOutOfRange, RestsOverBudget}
 use Rattle.refusals.specs.Refusals.{Outcome, refusal}

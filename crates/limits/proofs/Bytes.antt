@@ -8,7 +8,8 @@ use native.Mathlib.Omega.{arith}
 use lib.ListN.{length, getD}
 use lib.Seq.{sets}
 use Rattle.sizes.specs.Sizes.{limitBytesATone}
-use Rattle.bigendian.proofs.Stores.{Growing, length-even, Written, written-none, written-next}
+use Rattle.lists.specs.Joined.{joinedBelow}
+use Rattle.lists.proofs.Joined.{length-even, Written, written-none, written-next}
 use Rattle.silence.specs.Map.{silenced}
 use Rattle.gaps.specs.Gap.{parts}
 use Rattle.line.specs.declared.SetBy.{SetBy}
@@ -23,7 +24,7 @@ use Rattle.sheet.specs.Index.{Indexed}
 use Rattle.sheet.proofs.Sound.{Bytes}
 use Rattle.sheet.proofs.Uses.{size-is}
 use Rattle.arrays.proofs.Indexed.{SoundIndex, sound-index, steps-found}
-use Rattle.limits.specs.Limits.{setByNumber, setByOf, limitEntry, limitsBelow, limitBytes}
+use Rattle.limits.specs.Limits.{setByNumber, setByOf, limitEntry, limitBytes}
 
 -- a number that was written is read as the case that it stands for
 pub read-back : (by : SetBy) → setByOf (setByNumber by) ≡ by
@@ -31,13 +32,9 @@ read-back Silent = refl
 read-back Cap = refl
 read-back Mask = refl
 
--- tone by tone
-pub limits-grow : (l : Line) → Growing (limitsBelow l) (limitEntry l)
-unfolding limitsBelow
-limits-grow l = record { none = refl; next = λ n. refl }
-
+-- so many bytes a tone
 pub length-limits : (l : Line) → length (limitBytes l) ≡ limitBytesATone * l .size
-length-limits l = length-even (limits-grow l) limitBytesATone (λ i. refl) (l .size)
+length-limits l = length-even (limitEntry l) limitBytesATone (λ i. refl) (l .size)
 
 -- what is found of tone i tells its 2 bytes
 entry-found : (l : Line) (i : ℕ) (x : Steps) → x ≡ stepsAt l i → x .limit .bits ∷ setByNumber (x .limit .by) ∷ [] ≡ limitEntry l i
@@ -49,10 +46,10 @@ entry-found l i x e = rw (e, limit-same (gapOf l) (entryOf l i) (silenced (l .ma
 pub record WritingOf (s : List ℕ) (h : Header) (places rests maps out₀ out : List ℕ) (i : ℕ) : Type 0 where
   pub index : SoundIndex s h places rests maps
   pub inside : i ≤ h .size
-  pub entries : Written (limitsBelow (index .indexed .line)) out₀ 0 i out (limitBytesATone * i)
+  pub entries : Written (limitEntry (index .indexed .line)) out₀ 0 i out (limitBytesATone * i)
 
 pub writing-starts : {s places rests maps : List ℕ} {h : Header} → Bytes s → Indexed s h places rests maps → (out : List ℕ) → WritingOf s h places rests maps out out 0
-writing-starts b x out = record { index = sound-index b x; inside = omega arith; entries = written-none (limits-grow (x .line)) out 0 }
+writing-starts b x out = record { index = sound-index b x; inside = omega arith; entries = written-none (limitEntry (x .line)) out 0 }
 
 module _ {s places rests maps out₀ out : List ℕ} {h : Header} {i : ℕ} (W : WritingOf s h places rests maps out₀ out i) where
   abbrev line : Line
@@ -65,7 +62,7 @@ module _ {s places rests maps out₀ out : List ℕ} {h : Header} {i : ℕ} (W :
   written-limit l q silent x e stored = record {
     index = W .index;
     inside = omega arith;
-    entries = written-next (limits-grow line) out₀ 0 (W .entries) (omega arith) (stored ∙ ap (sets out (limitBytesATone * i)) (entry-found line i x (steps-found (W .index) i q silent x e)));
+    entries = written-next (limitEntry line) out₀ 0 (W .entries) (omega arith) (stored ∙ ap (sets out (limitBytesATone * i)) (entry-found line i x (steps-found (W .index) i q silent x e)));
   }
 
   -- all of them are written
@@ -73,4 +70,4 @@ module _ {s places rests maps out₀ out : List ℕ} {h : Header} {i : ℕ} (W :
   written-limits all l e =
       let same : line ≡ l = cc (W .index .indexed .means) in
       let n : i ≡ line .size = omega (arith, W .inside, size-is (W .index .indexed)) in
-      W .entries .stores ∙ ap (λ (k : ℕ). sets out₀ 0 (limitsBelow line k)) n ∙ ap (λ (k : Line). sets out₀ 0 (limitBytes k)) same
+      W .entries .stores ∙ ap (λ (k : ℕ). sets out₀ 0 (joinedBelow (limitEntry line) k)) n ∙ ap (λ (k : Line). sets out₀ 0 (limitBytes k)) same

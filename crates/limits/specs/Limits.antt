@@ -2,9 +2,10 @@
 -- set it: silent, cap, or mask.' The call writes 2 bytes a tone, from tone 0 up: the limit, then the number of what set it.
 -- Assumes nothing.
 use mathlib.Core.Bool.{cond}
-use mathlib.Core.List.{List, [], _∷_, _++_}
-use Prim.Native.Nat.{ℕ, zero, suc}
+use mathlib.Core.List.{List, [], _∷_}
+use Prim.Native.Nat.{ℕ}
 use lib.Dec.{eqb}
+use Rattle.lists.specs.Joined.{joinedBelow}
 use Rattle.line.specs.declared.SetBy.{SetBy}
 use Rattle.line.specs.declared.SetBy.the-variants.{Silent, Cap, Mask}
 use Rattle.line.specs.Line.{Line, tones, setByAt}
@@ -26,13 +27,9 @@ setByOf number = cond (eqb number 0) Silent (cond (eqb number 1) Cap Mask)
 abbrev pub limitEntry : Line → (i : ℕ) → List ℕ
 limitEntry l i = tones l .limit i ∷ setByNumber (setByAt l i) ∷ []
 
--- those of the tones below n
-unfoldable pub limitsBelow : Line → (n : ℕ) → List ℕ
-limitsBelow l zero = []
-limitsBelow l (suc n) = limitsBelow l n ++ limitEntry l n
-
+-- those of all tones
 abbrev pub limitBytes : Line → List ℕ
-limitBytes l = limitsBelow l (l .size)
+limitBytes l = joinedBelow (limitEntry l) (l .size)
 
 -- The sheet's refusals, 8, or the limits written.
 abbrev pub limiting : Meaning → (room : ℕ) → Writing

@@ -1,3 +1,4 @@
 pub mod Tests
 pub mod Stores
 pub mod First
+pub mod Joined

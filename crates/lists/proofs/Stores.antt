@@ -1,9 +1,10 @@
 -- Lists of one value, lists after a store or after stores from the start on, and lists that are filled from the front.
 -- Assumes nothing.
-use mathlib.Core.List.{List, _++_}
+use mathlib.Core.List.{List, [], _∷_, _++_}
 use mathlib.Core.Path.{_≡_, refl, ap, sym, _∙_}
 use Prim.Native.Nat.{ℕ, zero, suc, _+_, _≤_, _<_}
 use native.Mathlib.Decide.{decLe, ℕ-discrete}
+use native.Mathlib.Numerals.{unary-clauses}
 use native.Mathlib.Omega.{arith}
 use borrow.Author.Count.{below-more}
 use lib.ListN.{length, drop, getD, set, replicate, length-set, length-replicate}
@@ -57,3 +58,10 @@ pub from-start : (xs out : List ℕ) → length xs ≤ length out → sets out 0
 from-start xs out h =
     let e : 0 + length xs ≡ length xs = omega arith in
     sets-eq xs out 0 (omega arith) ∙ ap (λ n. xs ++ drop n out) e
+
+-- one list after another
+pub sets-append : (l : List ℕ) (i : ℕ) (xs ys : List ℕ) → sets l i (xs ++ ys) ≡ sets (sets l i xs) (i + length xs) ys
+sets-append l i [] ys = simp unary-clauses
+sets-append l i (x ∷ xs) ys =
+    let e : i + suc (length xs) ≡ suc i + length xs = omega arith in
+    rw e (sets-append (set l i x) (suc i) xs ys)

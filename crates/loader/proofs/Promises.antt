@@ -72,7 +72,7 @@ module _ (sheet : List ℕ) (b : Bytes sheet) (l : Line) (e : reading sheet ≡ 
   pub most-bits : {r : Loaded} → r ≡ loadAnswer (loadMost sheet (length old)) → new ≡ afterLoading (loadMost sheet (length old)) old → MostBits (tones l) (l .budget) r old new
   most-bits a n = record {
     answers = a ∙ ap loadAnswer (most-is sheet (length old) l e h);
-    front = ap (take (bytesATone * l .size)) (n ∙ ap (λ (x : Loading). afterLoading x old) (most-is sheet (length old) l e h)) ∙ take-at _ _ _ (length-entries (tones l) _ (l .size));
+    front = ap (take (bytesATone * l .size)) (n ∙ ap (λ (x : Loading). afterLoading x old) (most-is sheet (length old) l e h)) ∙ take-at _ _ _ (length-entries (tones l) (mostBits (tones l) (l .budget) .table) (l .size));
     limits = subst (KeepsLimits (tones l)) (from-none .same-table) (from-none .limits);
     budget-kept = subst (KeepsBudget (tones l) (l .budget)) (from-none .same-table) (from-none .budget-kept);
     best = subst (Best (tones l) (l .budget)) (from-none .same-table) (from-none .best);

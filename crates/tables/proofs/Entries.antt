@@ -6,30 +6,21 @@ use Prim.Native.Nat.{ℕ, zero, suc, _+_, _*_, _≤_, _<_}
 use native.Mathlib.Omega.{arith}
 use lib.ListN.{length, getD, drop}
 use lib.Seq.{sets}
+use Rattle.lists.specs.Joined.{joinedBelow}
+use Rattle.lists.proofs.Joined.{joined-same, length-even}
 use Rattle.lists.proofs.Stores.{from-start}
 use Rattle.sizes.specs.Sizes.{bytesATone}
 use Rattle.bigendian.proofs.Numbers.{length-bytes}
-use Rattle.bigendian.proofs.Stores.{Growing, length-even}
 use Rattle.steps.specs.Tones.{Tones, Table, _!_}
 use Rattle.line.specs.Arrays.{arrays, powerIn, StandsFor}
-use Rattle.tables.specs.Tables.{toneEntry, entriesBelow, tableBytes}
-
--- tone by tone
-pub entries-grow : (T : Tones) (t : Table) → Growing (entriesBelow T t) (toneEntry T t)
-unfolding entriesBelow
-entries-grow T t = record { none = refl; next = λ n. refl }
+use Rattle.tables.specs.Tables.{toneEntry, tableBytes}
 
 -- so many bytes a tone
 pub length-entry : (T : Tones) (t : Table) (i : ℕ) → length (toneEntry T t i) ≡ bytesATone
 length-entry T t i = omega (arith, length-bytes 8 (T .power i (t ! i)))
 
-pub length-entries : (T : Tones) (t : Table) (n : ℕ) → length (entriesBelow T t n) ≡ bytesATone * n
-length-entries T t = length-even (entries-grow T t) bytesATone (length-entry T t)
-
-same-entries : (T U : Tones) (t u : Table) (n : ℕ) → ((i : ℕ) → i < n → toneEntry T t i ≡ toneEntry U u i) → entriesBelow T t n ≡ entriesBelow U u n
-unfolding entriesBelow
-same-entries T U t u zero h = refl
-same-entries T U t u (suc n) h = rw (same-entries T U t u n (λ i l. h i (omega arith)), h n (omega arith))
+pub length-entries : (T : Tones) (t : Table) (n : ℕ) → length (joinedBelow (toneEntry T t) n) ≡ bytesATone * n
+length-entries T t = length-even (toneEntry T t) bytesATone (length-entry T t)
 
 -- tones by their costs, doublings and rests alone
 abbrev pub plain : (costs doublings rests : List ℕ) → Tones
@@ -37,9 +28,9 @@ plain costs doublings rests = record { count = 0; limit = λ i. 0; power = λ i 
 
 -- they give the bytes of whatever table the arrays and the bits stand for
 pub plain-table-bytes : {count : ℕ} {limits costs doublings rests bits : List ℕ} {T : Tones} {t : Table}
-    → StandsFor count (arrays limits costs doublings rests) bits T t → entriesBelow (plain costs doublings rests) bits (T .count) ≡ tableBytes T t
+    → StandsFor count (arrays limits costs doublings rests) bits T t → joinedBelow (toneEntry (plain costs doublings rests) bits) (T .count) ≡ tableBytes T t
 plain-table-bytes {count} {costs = costs} {doublings} {rests} {bits} {T = T} {t} S =
-    same-entries (plain costs doublings rests) T bits t (T .count) (λ i l.
+    joined-same (toneEntry (plain costs doublings rests) bits) (toneEntry T t) (T .count) (λ i l.
     let il : i < count = omega (arith, S .describes .same-count) in
     rw (S .describes .same-power i (t ! i) il (S .within .under i l), S .same-bits i il))
 

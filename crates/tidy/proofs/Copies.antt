@@ -1,16 +1,17 @@
 -- What is copied from a sheet, and the maps that are written, are the parts of the tidy form of the line that the sheet's index stands for.
 -- Assumes nothing.
 use mathlib.Core.List.{List, [], _∷_, _++_, append-assoc, append-nil}
-use mathlib.Core.Path.{_≡_, refl, sym, _∙_}
+use mathlib.Core.Path.{_≡_, refl, sym, ap, _∙_}
 use Prim.Native.Nat.{ℕ, zero, suc, _+_, _*_, _/_, _%_, _≤_, _<_}
 use native.Mathlib.Decide.{le-ind}
 use native.Mathlib.Nat.{add-zero, add-assoc}
 use native.Mathlib.Omega.{arith}
 use lib.ListN.{length, getD, length-append, List·getD-eq-default}
 use Rattle.sizes.specs.Sizes.{mostWords, wordsOf, restCommand}
+use Rattle.lists.specs.Joined.{joinedBelow}
+use Rattle.lists.proofs.Joined.{joined-same, length-even}
 use Rattle.bigendian.specs.Number.{number, bytes}
 use Rattle.bigendian.proofs.Numbers.{number-one, number-from}
-use Rattle.bigendian.proofs.Stores.{Growing}
 use Rattle.line.specs.Tone.{KindInRange}
 use Rattle.line.specs.Line.{Line, gapOf, EntryInRange, LineInRange}
 use Rattle.rows.specs.Rows.{Operand, Row, width, rest}
@@ -18,26 +19,20 @@ use Rattle.rows.specs.Codes.{commandBytes}
 use Rattle.places.specs.Places.{toneAt, restAt, restFrom, entryAt}
 use Rattle.sheet.specs.Index.{ToneStands, RestStands, Indexes}
 use Rattle.sheet.proofs.Sound.{Bytes, Sound}
-use Rattle.tidyform.specs.Tidy.{operandBytes, written, kindRow, kindValues, restBytes, entryBytes, toneBytes, mapBytes}
+use Rattle.tidyform.specs.Tidy.{operandBytes, written, kindRow, kindValues, restBytes, entryBytes, wordBytes, toneBytes, mapBytes}
 use Rattle.tidyform.proofs.Parts.{no-word}
 use Rattle.tidyform.proofs.Written.{Stand}
 use Rattle.tidyform.proofs.Tones.{tone-read}
-use Rattle.tidy.specs.Copies.{part, restCopy, entryCopy, copies}
+use Rattle.tidy.specs.Copies.{byteFrom, part, restCopy, entryCopy, copies}
 
 -- ---- parts of a sheet
 
-pub part-grows : (s : List ℕ) (at : ℕ) → Growing (part s at) (λ n. getD s (at + n) 0 ∷ [])
-unfolding part
-part-grows s at = record { none = refl; next = λ n. refl }
-
 pub length-part : (s : List ℕ) (at w : ℕ) → length (part s at w) ≡ w
-unfolding part
-length-part s at zero = refl
-length-part s at (suc w) = simp length-append (omega (arith, length-part s at w))
+length-part s at w = omega (arith, length-even (byteFrom s at) 1 (λ k. refl) w)
 
 -- a part and the part after it
 parts : (s : List ℕ) (at w to v n : ℕ) → at + w ≡ to → w + v ≡ n → part s at w ++ part s to v ≡ part s at n
-unfolding part
+unfolding joinedBelow
 parts s at w to v n e f = rw (sym e, sym f) (join v)
   where
     join : (v : ℕ) → part s at w ++ part s (at + w) v ≡ part s at (w + v)
@@ -47,12 +42,12 @@ parts s at w to v n e f = rw (sym e, sym f) (join v)
         rw (z, sym (append-assoc (part s at w) (part s (at + w) v) (getD s (at + w + v) 0 ∷ [])), join v, add-assoc)
 
 part-one : (s : List ℕ) (at : ℕ) → part s at 1 ≡ getD s at 0 ∷ []
-unfolding part
+unfolding joinedBelow
 part-one s at = simp add-zero
 
 -- a number's bytes are those that it was read from
 bytes-number : (s : List ℕ) → Bytes s → (at w : ℕ) → bytes w (number s at w) ≡ part s at w
-unfolding part number bytes
+unfolding joinedBelow number bytes
 bytes-number s b at zero = refl
 bytes-number s b at (suc w) =
     let n = number s at w in
@@ -67,7 +62,7 @@ bytes-number s b at (suc w) =
 module _ (s : List ℕ) (b : Bytes s) where
   -- operands that stand there are written with the bytes that they were read from
   operands-back : (at : ℕ) (os : List Operand) (vs : List ℕ) → Stand s at os vs → operandBytes os vs ≡ part s at (width os)
-  unfolding part
+  unfolding joinedBelow
   operands-back at [] vs st = refl
   operands-back at (o ∷ os) [] st = absurd st
   operands-back at (o ∷ os) (v ∷ vs) st =
@@ -97,30 +92,23 @@ module _ (s : List ℕ) (b : Bytes s) where
   rest-copied i zero h = refl
   rest-copied i (suc p) h = rw (rest-copy i (suc p) (h (omega arith)))
 
+  entry-copy : (i place rested : ℕ) (g : ℕ) → (0 < place → ToneStands s i place) → (0 < rested → RestStands s i rested) → (place ≡ 0 → rested ≡ 0)
+      → EntryInRange g (entryAt s place rested) → entryBytes i (entryAt s place rested) ≡ entryCopy s place rested
+  entry-copy i zero rested g h k none R = rw (none refl)
+  entry-copy i (suc p) rested g h k none R = rw (← tone-copy i (suc p) (h (omega arith)) (R .0 .kind), rest-copied i rested k)
+
   -- the tones' commands are those of the line that is indexed
   pub copies-are : {places rests maps : List ℕ} {l : Line} → Indexes s places rests maps l → LineInRange l → (n : ℕ) → n ≤ l .size
       → toneBytes n (l .entries) ≡ copies n s places rests
-  unfolding toneBytes copies
-  copies-are x I zero h = refl
-  copies-are {places} {rests} {l = l} x I (suc n) h =
-      let R = rw (x .entry n) at (I .entries n h) in
-      rw (copies-are x I n (omega arith), x .entry n, entry-copy (getD places n 0) (getD rests n 0) (x .stands n) (x .rest-stands n) (x .no-rest n) R)
-    where
-      entry-copy : (place rested : ℕ) → (0 < place → ToneStands s n place) → (0 < rested → RestStands s n rested) → (place ≡ 0 → rested ≡ 0)
-          → EntryInRange (gapOf l) (entryAt s place rested) → entryBytes n (entryAt s place rested) ≡ entryCopy s place rested
-      entry-copy zero rested h g none R = rw (none refl)
-      entry-copy (suc p) rested h g none R = rw (← tone-copy n (suc p) (h (omega arith)) (R .0 .kind), rest-copied n rested g)
+  copies-are {places} {rests} {l = l} x I n h = joined-same _ _ n (λ i k.
+      let R = rw (x .entry i) at (I .entries i (omega arith)) in
+      rw (x .entry i) (entry-copy i (getD places i 0) (getD rests i 0) (gapOf l) (x .stands i) (x .rest-stands i) (x .no-rest i) R))
 
 -- ---- the maps
 
-same-maps : (maps maps′ : List ℕ) → ((word : ℕ) → getD maps word 0 ≡ getD maps′ word 0) → (n : ℕ) → mapBytes n maps ≡ mapBytes n maps′
-unfolding mapBytes
-same-maps maps maps′ e zero = refl
-same-maps maps maps′ e (suc n) = rw (same-maps maps maps′ e n, e n)
-
 -- words past the line's are 0 and add nothing
 no-more : (maps : List ℕ) (n m : ℕ) → n ≤ m → ((word : ℕ) → n ≤ word → getD maps word 0 ≡ 0) → mapBytes m maps ≡ mapBytes n maps
-unfolding mapBytes
+unfolding joinedBelow
 no-more maps n m h zeros =
     le-ind (λ (k : ℕ). mapBytes k maps ≡ mapBytes n maps) refl (λ k l e. rw (no-word k (zeros k l), append-nil (mapBytes k maps)) e) m h
 
@@ -128,4 +116,4 @@ pub maps-are : {s places rests maps : List ℕ} (l : Line) → Sound l → Index
     → mapBytes (wordsOf (l .size)) (l .maps) ≡ mapBytes mostWords maps
 maps-are {maps = maps} l S x =
     sym (no-more (l .maps) (wordsOf (l .size)) mostWords (omega (arith, S .in-range .size-high)) (λ word h. List·getD-eq-default (l .maps) 0 (omega (arith, S .maps-sized))))
-    ∙ same-maps (l .maps) maps (x .map) mostWords
+    ∙ joined-same _ _ mostWords (λ word h. ap (wordBytes word) (x .map word))

@@ -14,7 +14,8 @@ use lib.Seq.{sets}
 use Rattle.sizes.specs.Sizes.{wordsOf, sizeCommand, restCommand, silenceCommand}
 use Rattle.bigendian.specs.Number.{bytes}
 use Rattle.bigendian.proofs.Numbers.{length-bytes, bytes-one}
-use Rattle.bigendian.proofs.Stores.{Growing, sets-append}
+use Rattle.lists.specs.Joined.{joinedBelow}
+use Rattle.lists.proofs.Stores.{sets-append}
 use Rattle.gaps.specs.declared.Gap.the-variants.{Parts, Tenths}
 use Rattle.line.specs.Line.{Line}
 use Rattle.places.specs.Places.{restFrom}
@@ -27,10 +28,6 @@ use Rattle.tidy.specs.Copies.{part, Inside, RestInside, toneCopy, restCo
 use Rattle.tidy.proofs.Copies.{length-part}
 
 -- The copied tones.
-
-pub copies-grow : (s places rests : List ℕ) → Growing (λ n. copies n s places rests) (λ n. entryCopy s (getD places n 0) (getD rests n 0))
-unfolding copies
-copies-grow s places rests = record { none = refl; next = λ n. refl }
 
 pub length-copy : (s : List ℕ) (place : ℕ) → 0 < place → length (toneCopy s place) ≡ commandBytes (getD s place 0)
 length-copy s zero h = absurd (omega arith)
@@ -47,12 +44,12 @@ length-no-rest s place e = rw (eq-eqb (restFrom s place) 0 e)
 
 -- what is copied is a part of the sheet, that of no tone and of no rest too
 pub copy-is : (s : List ℕ) (place : ℕ) → toneCopy s place ≡ part s place (length (toneCopy s place))
-unfolding part
+unfolding joinedBelow
 copy-is s zero = refl
 copy-is s (suc p) = ap (part s (suc p)) (sym (length-part s (suc p) (commandBytes (getD s (suc p) 0))))
 
 pub rest-is : (s : List ℕ) (place : ℕ) → restCopy s place ≡ part s place (length (restCopy s place))
-unfolding part
+unfolding joinedBelow
 rest-is s place = by (eqb (restFrom s place) 0)
   where
     by : (none : Bool) → (let copy = cond none [] (part s place restCommand) in copy ≡ part s place (length copy))

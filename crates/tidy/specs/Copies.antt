@@ -6,13 +6,16 @@ use Prim.Native.Nat.{ℕ, zero, suc, _+_, _≤_, _<_}
 use lib.Dec.{eqb}
 use lib.ListN.{length, getD}
 use Rattle.sizes.specs.Sizes.{restCommand}
+use Rattle.lists.specs.Joined.{joinedBelow}
 use Rattle.places.specs.Places.{restFrom}
 use Rattle.rows.specs.Codes.{commandBytes}
 
 -- the bytes of a sheet from a place on
-unfoldable pub part : List ℕ → (at width : ℕ) → List ℕ
-part s at zero = []
-part s at (suc w) = part s at w ++ (getD s (at + w) 0 ∷ [])
+abbrev pub byteFrom : List ℕ → (at k : ℕ) → List ℕ
+byteFrom s at k = getD s (at + k) 0 ∷ []
+
+abbrev pub part : List ℕ → (at width : ℕ) → List ℕ
+part s at width = joinedBelow (byteFrom s at) width
 
 -- a tone's command that stands at a place is all there; none stands at 0
 pub record Inside (s : List ℕ) (place : ℕ) : Type 0 where
@@ -34,6 +37,8 @@ restCopy s place = cond (eqb (restFrom s place) 0) [] (part s place restCommand)
 abbrev pub entryCopy : List ℕ → (place rest : ℕ) → List ℕ
 entryCopy s place rest = toneCopy s place ++ restCopy s rest
 
-unfoldable pub copies : (count : ℕ) → (s places rests : List ℕ) → List ℕ
-copies zero s places rests = []
-copies (suc n) s places rests = copies n s places rests ++ entryCopy s (getD places n 0) (getD rests n 0)
+abbrev pub copyAt : (s places rests : List ℕ) → (i : ℕ) → List ℕ
+copyAt s places rests i = entryCopy s (getD places i 0) (getD rests i 0)
+
+abbrev pub copies : (count : ℕ) → (s places rests : List ℕ) → List ℕ
+copies count s places rests = joinedBelow (copyAt s places rests) count

@@ -5,6 +5,7 @@ use mathlib.Core.Path.{_≡_, refl}
 use mathlib.Core.List.{List, [], _∷_, _++_}
 use Prim.Native.Nat.{ℕ}
 use native.Mathlib.Omega.{arith}
+use Rattle.lists.specs.Joined.{joinedBelow}
 use Rattle.bigendian.specs.Number.{number, bytes, numberAt}
 use Rattle.silence.specs.Map.{namesBeyond, some}
 use Rattle.steps.specs.Tones.{sum}
@@ -17,7 +18,7 @@ use Rattle.refusals.specs.declared.Refusal.the-variants.{ToneCannotTake, RestsO
 use Rattle.rows.specs.Rows.{rowAt}
 use Rattle.command.specs.Format.{decoded}
 use Rattle.sheet.specs.Reading.{Meaning, accepted, refused, emptyLine, readFrom, readingIn, reading}
-use Rattle.tidyform.specs.Tidy.{toneBytes, mapBytes, gapBytes, headBytes, tidy}
+use Rattle.tidyform.specs.Tidy.{gapBytes, headBytes, tidy}
 
 -- the line that a sheet means
 abbrev line-of : Meaning → Line
@@ -63,12 +64,12 @@ abbrev sample : List ℕ
 sample = 1 ∷ 0 ∷ 3 ∷ 2 ∷ 1 ∷ 0 ∷ fromBudget
 
 sample-tidy : tidied (reading sample) ≡ sample
-unfolding number bytes numberAt namesBeyond some rowAt decoded readFrom readingIn sum toneBytes mapBytes gapBytes headBytes tidy
+unfolding number bytes numberAt namesBeyond some rowAt decoded readFrom readingIn sum joinedBelow gapBytes headBytes tidy
 sample-tidy = refl
 
 -- tones rise, a silenced tone stays described, and maps of one word are joined
 untidy-tidy : tidied (reading (begin 39 ++ silenceOf 2 ++ tone2 ++ tone1 ++ silenceOf 1 ++ ending)) ≡ begin 39 ++ tone1 ++ tone2 ++ silenceOf 3 ++ ending
-unfolding number bytes numberAt namesBeyond some rowAt decoded readFrom readingIn sum toneBytes mapBytes gapBytes headBytes tidy
+unfolding number bytes numberAt namesBeyond some rowAt decoded readFrom readingIn sum joinedBelow gapBytes headBytes tidy
 untidy-tidy = refl
 
 -- ---- rests
@@ -76,7 +77,7 @@ untidy-tidy = refl
 -- W6: 'Tidying puts 0B straight after its tone and drops one whose rest is 0'; a silenced tone keeps its rest
 rests-tidy : tidied (reading (begin 39 ++ tone2 ++ restOf 2 0 ++ tone1 ++ tone0 ++ restOf 1 4 ++ silenceOf 2 ++ ending))
     ≡ begin 39 ++ tone0 ++ tone1 ++ restOf 1 4 ++ tone2 ++ silenceOf 2 ++ ending
-unfolding number bytes numberAt namesBeyond some kindCost rowAt decoded readFrom readingIn sum toneBytes mapBytes gapBytes headBytes tidy
+unfolding number bytes numberAt namesBeyond some kindCost rowAt decoded readFrom readingIn sum joinedBelow gapBytes headBytes tidy
 rests-tidy = refl
 
 -- 14, at the tone: a rest before its tone's command, and one after a rest of 0
@@ -97,7 +98,7 @@ abbrev saved : List ℕ
 saved = begin 3 ++ tone1 ++ restOf 1 4 ++ silenceOf 2 ++ ending
 
 rest-silenced : tidied (reading saved) ≡ saved
-unfolding number bytes numberAt namesBeyond some kindCost rowAt decoded readFrom readingIn sum toneBytes mapBytes gapBytes headBytes tidy
+unfolding number bytes numberAt namesBeyond some kindCost rowAt decoded readFrom readingIn sum joinedBelow gapBytes headBytes tidy
 rest-silenced = refl
 
 -- ---- 10 dB in parts of 256 and in tenths of a decibel
@@ -110,7 +111,7 @@ inTenths = 1 ∷ 0 ∷ 3 ∷ 8 ∷ 100 ∷ fromBudget
 
 -- W1: 'The tidy form keeps whichever command the sheet had'
 tenths-tidy : tidied (reading inTenths) ≡ inTenths
-unfolding number bytes numberAt namesBeyond some rowAt decoded readFrom readingIn sum toneBytes mapBytes gapBytes headBytes tidy
+unfolding number bytes numberAt namesBeyond some rowAt decoded readFrom readingIn sum joinedBelow gapBytes headBytes tidy
 tenths-tidy = refl
 
 -- two sheets mean different lines that load alike

@@ -11,7 +11,7 @@ use lib.Seq.{getD-set-same, getD-set-other, set-out}
 use Rattle.sizes.specs.Sizes.{wordsOf, sizeCommand, gapCommand, tenthsCommand, budgetCommand, silenceCommand, restCommand, endCommand}
 use Rattle.lists.proofs.Stores.{all-same}
 use Rattle.bigendian.proofs.Numbers.{length-bytes}
-use Rattle.bigendian.proofs.Stores.{length-none, length-next}
+use Rattle.lists.proofs.Joined.{length-none, length-next}
 use Rattle.gaps.specs.declared.Gap.{Gap}
 use Rattle.gaps.specs.declared.Gap.the-variants.{Parts, Tenths}
 use Rattle.line.specs.Line.{Entry, undescribed, described, withRest, Line, entryOf}
@@ -19,7 +19,7 @@ use Rattle.rows.specs.declared.Header.{Header}
 use Rattle.rows.specs.declared.Command.the-variants.{Silence}
 use Rattle.sheet.specs.Reading.{headerOf, bareLine, withEntry, effect}
 use Rattle.tidyform.specs.Tidy.{entryBytes, toneBytes, wordBytes, mapBytes, gapBytes, headBytes, tidy}
-use Rattle.tidyform.proofs.Parts.{length-rest-le, length-entry, length-word-le, tones-grow, words-grow}
+use Rattle.tidyform.proofs.Parts.{length-rest-le, length-entry, length-word-le}
 
 -- ---- what the first entries of a list add up to, where each counts by its number and value
 
@@ -76,8 +76,8 @@ tones = record {
   absent = undescribed;
   one = toneLength;
   all = λ n es. length (toneBytes n es);
-  none = λ es. length-none (tones-grow es);
-  more = λ n es. length-next (tones-grow es) n;
+  none = λ es. length-none _;
+  more = λ n es. length-next _ n;
 }
 
 -- a rest adds at most its command to its tone, whatever rest the tone had
@@ -95,8 +95,8 @@ maps = record {
   absent = 0;
   one = mapLength;
   all = λ n ms. length (mapBytes n ms);
-  none = λ ms. length-none (words-grow ms);
-  more = λ n ms. length-next (words-grow ms) n;
+  none = λ ms. length-none _;
+  more = λ n ms. length-next _ n;
 }
 
 -- ---- the tidy form

@@ -10,7 +10,6 @@ use lib.Dec.{eqb}
 use lib.ListN.{length, getD, length-append}
 use Rattle.sizes.specs.Sizes.{silenceCommand, restCommand}
 use Rattle.bigendian.proofs.Numbers.{length-bytes}
-use Rattle.bigendian.proofs.Stores.{Growing}
 use Rattle.readings.specs.declared.Reading.{Reading}
 use Rattle.readings.specs.declared.Reading.the-variants.{Both, Ratio}
 use Rattle.line.specs.declared.Kind.{Kind}
@@ -71,13 +70,3 @@ length-no-word word e = ap length (no-word word e)
 
 pub length-word-le : (word map : ℕ) → length (wordBytes word map) ≤ silenceCommand
 length-word-le word map = le-trans (length-unless (eqb map 0) (written silenceRow (word ∷ map ∷ []))) (simp (length-append, length-bytes) (omega arith))
-
--- The tones and the words: lists that grow by one part at a time.
-
-pub tones-grow : (entries : List Entry) → Growing (λ n. toneBytes n entries) (λ n. entryBytes n (getD entries n undescribed))
-unfolding toneBytes
-tones-grow entries = record { none = refl; next = λ n. refl }
-
-pub words-grow : (maps : List ℕ) → Growing (λ n. mapBytes n maps) (λ n. wordBytes n (getD maps n 0))
-unfolding mapBytes
-words-grow maps = record { none = refl; next = λ n. refl }

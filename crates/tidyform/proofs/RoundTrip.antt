@@ -17,6 +17,7 @@ use lib.Dec.{eqb}
 use lib.ListN.{length, getD, set, replicate, length-set, length-replicate}
 use lib.Seq.{getD-set-same, getD-set-other, set-getD, set-set, ext-getD}
 use Rattle.sizes.specs.Sizes.{mostPower, mostWords, mostTones, longestSheet, restCommand, wordsOf}
+use Rattle.lists.specs.Joined.{joinedBelow}
 use Rattle.lists.proofs.Stores.{all-same}
 use Rattle.bigendian.proofs.Numbers.{number-from, bytes-one}
 use Rattle.silence.proofs.Maps.{clear-beyond}
@@ -164,7 +165,7 @@ module _ (l : Line) (S : Sound l) where
   entry-ends n (described t r) q h e I ends rested unrested = tone-ends n t r q h e I rested unrested ends
 
   tones-end : (n : ℕ) (q : List ℕ) → n ≤ l .size → Ends l q n 0 → Ends l (toneBytes n (l .entries) ++ q) 0 0
-  unfolding toneBytes
+  unfolding joinedBelow
   tones-end zero q h ends = ends
   tones-end (suc n) q h ends =
       let e : Entry = getD (l .entries) n undescribed in
@@ -197,7 +198,7 @@ module _ (l : Line) (S : Sound l) where
       (λ s at code whole st. map-goes n _ rested s at) (ends rested unrested)
 
   maps-end : (n : ℕ) (q : List ℕ) → n ≤ wordsOf (l .size) → Ends l q (l .size) n → Ends l (mapBytes n (l .maps) ++ q) (l .size) 0
-  unfolding mapBytes
+  unfolding joinedBelow
   maps-end zero q h ends = ends
   maps-end (suc n) q h ends =
       let v : ℕ = getD (l .maps) n 0 in

@@ -2,11 +2,12 @@
 -- Assumes nothing.
 use mathlib.Core.Bool.{cond}
 use mathlib.Core.List.{List, [], _∷_, _++_}
-use Prim.Native.Nat.{ℕ, zero, suc}
+use Prim.Native.Nat.{ℕ}
 use lib.Dec.{eqb}
 use lib.Ieee.{binary32, toBits}
 use lib.ListN.{getD}
 use Rattle.sizes.specs.Sizes.{wordsOf}
+use Rattle.lists.specs.Joined.{joinedBelow}
 use Rattle.bigendian.specs.Number.{bytes}
 use Rattle.gaps.specs.declared.Gap.{Gap}
 use Rattle.gaps.specs.declared.Gap.the-variants.{Parts, Tenths}
@@ -58,17 +59,21 @@ abbrev pub entryBytes : (i : ℕ) → Entry → List ℕ
 entryBytes i undescribed = []
 entryBytes i (described t r) = written (kindRow (t .kind)) (i ∷ kindValues (t .kind)) ++ restBytes i r
 
-unfoldable pub toneBytes : (count : ℕ) → List Entry → List ℕ
-toneBytes zero entries = []
-toneBytes (suc n) entries = toneBytes n entries ++ entryBytes n (getD entries n undescribed)
+abbrev pub toneBytesAt : List Entry → (i : ℕ) → List ℕ
+toneBytesAt entries i = entryBytes i (getD entries i undescribed)
+
+abbrev pub toneBytes : (count : ℕ) → List Entry → List ℕ
+toneBytes count entries = joinedBelow (toneBytesAt entries) count
 
 -- 'for each word in rising order one 06 if its joined map is not zero'
 abbrev pub wordBytes : (word map : ℕ) → List ℕ
 wordBytes word map = cond (eqb map 0) [] (written silenceRow (word ∷ map ∷ []))
 
-unfoldable pub mapBytes : (count : ℕ) → (maps : List ℕ) → List ℕ
-mapBytes zero maps = []
-mapBytes (suc n) maps = mapBytes n maps ++ wordBytes n (getD maps n 0)
+abbrev pub wordBytesAt : (maps : List ℕ) → (word : ℕ) → List ℕ
+wordBytesAt maps word = wordBytes word (getD maps word 0)
+
+abbrev pub mapBytes : (count : ℕ) → (maps : List ℕ) → List ℕ
+mapBytes count maps = joinedBelow (wordBytesAt maps) count
 
 -- W1: 'The tidy form keeps whichever command the sheet had.'
 unfoldable pub gapBytes : Gap → List ℕ
@@ -82,5 +87,5 @@ headBytes h = written sizeRow (h .size ∷ []) ++ gapBytes (h .gap) ++ written b
 
 -- 'The tidy form has 01, 02, 03, the described tones in rising number, then for each word .., then 07.'
 unfoldable pub tidy : Line → List ℕ
-unfolding toneBytes mapBytes headBytes
+unfolding headBytes
 tidy l = headBytes (headerOf l) ++ toneBytes (l .size) (l .entries) ++ mapBytes (wordsOf (l .size)) (l .maps) ++ written end []

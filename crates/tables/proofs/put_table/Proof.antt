@@ -3,14 +3,14 @@ use mathlib.Core.Path.{_≡_}
 use Prim.Native.Nat.{_-_, _*_, _≤_}
 use native.Mathlib.Omega.{arith}
 use Rattle.sizes.specs.Sizes.{bytesATone}
-use Rattle.bigendian.proofs.Stores.{Written, written-none, written-next}
-use Rattle.tables.specs.Tables.{entriesBelow}
-use Rattle.tables.proofs.Entries.{entries-grow, length-entry, plain, plain-table-bytes}
+use Rattle.lists.proofs.Joined.{Written, written-none, written-next}
+use Rattle.tables.specs.Tables.{toneEntry}
+use Rattle.tables.proofs.Entries.{length-entry, plain, plain-table-bytes}
 use Rattle.tables.proofs.put_table.Statement.{statement}
 use Rattle.tables.proofs.put_table.Tie as tie
 
 abbrev Inv-loop : tie.InvT-loop
-Inv-loop out₀ count costs doublings rests bits i₀ out i = (i ≤ count) × Written (entriesBelow (plain costs doublings rests) bits) out₀ 0 i out (bytesATone * i)
+Inv-loop out₀ count costs doublings rests bits i₀ out i = (i ≤ count) × Written (toneEntry (plain costs doublings rests) bits) out₀ 0 i out (bytesATone * i)
 
 abbrev μ-loop : tie.MeasureT-loop
 μ-loop out₀ count costs doublings rests bits i₀ out i = count - i
@@ -18,7 +18,7 @@ abbrev μ-loop : tie.MeasureT-loop
 loop-holds : tie.Need-loop-holds Inv-loop μ-loop
 loop-holds c =
     let a = c .before .args in
-    (omega arith, written-none (entries-grow (plain (a .costs .now) (a .doublings .now) (a .rests .now)) (a .bits .now)) (a .out .now) 0)
+    (omega arith, written-none (toneEntry (plain (a .costs .now) (a .doublings .now) (a .rests .now)) (a .bits .now)) (a .out .now) 0)
 
 mul-power-at : tie.Need-mul-power-at Inv-loop μ-loop
 mul-power-at c = omega arith
@@ -66,7 +66,7 @@ loop-again c =
     let T = plain (s .costs .now) (s .doublings .now) (s .rests .now) in
     let t = s .bits .now in
     let stored = rw (p .power-at .ensures) at (c .before .before .put-tone .ensures) in
-    (omega arith, written-next (entries-grow T t) (s .out .now) 0 (a .loop .inv .1) (omega (arith, length-entry T t (a .loop .i))) stored)
+    (omega arith, written-next (toneEntry T t) (s .out .now) 0 (a .loop .inv .1) (omega (arith, length-entry T t (a .loop .i))) stored)
 
 same-length : tie.Need-same-length Inv-loop μ-loop
 same-length c = c .before .loop .inv .1 .same-length

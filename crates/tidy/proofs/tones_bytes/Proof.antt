@@ -5,9 +5,9 @@ use native.Mathlib.Numerals.{add-one}
 use native.Mathlib.Omega.{arith}
 use lib.ListN.{length, getD}
 use Rattle.sizes.specs.Sizes.{levelsCommand, restCommand}
-use Rattle.bigendian.proofs.Stores.{length-none, length-next}
-use Rattle.tidy.specs.Copies.{copies}
-use Rattle.tidy.proofs.Writes.{copies-grow, length-entry}
+use Rattle.lists.proofs.Joined.{length-none, length-next}
+use Rattle.tidy.specs.Copies.{copyAt, copies}
+use Rattle.tidy.proofs.Writes.{length-entry}
 use Rattle.tidy.proofs.tones_bytes.Statement.{statement}
 use Rattle.tidy.proofs.tones_bytes.Tie as tie
 
@@ -18,7 +18,7 @@ abbrev μ-loop : tie.MeasureT-loop
 μ-loop s size places rests bytes₀ i₀ bytes i = size - i
 
 loop-holds : tie.Need-loop-holds Inv-loop μ-loop
-loop-holds c = let a = c .before .args in (omega arith, omega (arith, length-none (copies-grow (a .s .now) (a .places .now) (a .rests .now))), omega arith)
+loop-holds c = let a = c .before .args in (omega arith, omega (arith, length-none (copyAt (a .s .now) (a .places .now) (a .rests .now))), omega arith)
 
 cast-tone-bytes : tie.Need-cast-tone-bytes Inv-loop μ-loop
 cast-tone-bytes c = omega arith
@@ -60,7 +60,7 @@ loop-again : tie.Need-loop-again Inv-loop μ-loop
 loop-again c =
     let l = c .before .before .before .before .before .loop in
     let a = c .before .before .before .before .before .before .before .args in
-    let more = length-next (copies-grow (a .s .now) (a .places .now) (a .rests .now)) (l .i) in
+    let more = length-next (copyAt (a .s .now) (a .places .now) (a .rests .now)) (l .i) in
     let both = length-entry (a .s .now) (getD (a .places .now) (l .i) 0) (getD (a .rests .now) (l .i) 0) in
     let t = c .before .before .tone-bytes .ensures in
     let r = c .rest-bytes .ensures in

@@ -6,9 +6,9 @@ use native.Mathlib.Numerals.{add-one}
 use native.Mathlib.Omega.{arith}
 use lib.ListN.{length}
 use Rattle.sizes.specs.Sizes.{mostWords, silenceCommand}
-use Rattle.bigendian.proofs.Stores.{length-none, length-next}
-use Rattle.tidyform.specs.Tidy.{mapBytes}
-use Rattle.tidyform.proofs.Parts.{words-grow, length-word, length-no-word}
+use Rattle.lists.proofs.Joined.{length-none, length-next}
+use Rattle.tidyform.specs.Tidy.{wordBytesAt, mapBytes}
+use Rattle.tidyform.proofs.Parts.{length-word, length-no-word}
 use Rattle.tidy.proofs.words_bytes.Statement.{statement}
 use Rattle.tidy.proofs.words_bytes.Tie as tie
 
@@ -19,7 +19,7 @@ abbrev μ-loop : tie.MeasureT-loop
 μ-loop maps bytes₀ word₀ bytes word = mostWords - word
 
 loop-holds : tie.Need-loop-holds Inv-loop μ-loop
-loop-holds c = (omega arith, omega (arith, length-none (words-grow (c .args .maps .now))), omega arith)
+loop-holds c = (omega arith, omega (arith, length-none (wordBytesAt (c .args .maps .now))), omega arith)
 
 mul-if1 : tie.Need-mul-if1 Inv-loop μ-loop
 mul-if1 c = omega arith
@@ -40,7 +40,7 @@ loop-again : tie.Need-loop-again Inv-loop μ-loop
 loop-again c =
     let a = c .before .before .before in
     let word = a .loop .word in
-    let more = length-next (words-grow (a .before .args .maps .now)) word in
+    let more = length-next (wordBytesAt (a .before .args .maps .now)) word in
     rw add-one (⊎-elim
     (λ w. let l = length-word word (w .0 .taken) in (omega arith, omega arith, omega arith))
     (λ w. let l = length-no-word word (w .0 .left) in (omega arith, omega arith, omega arith))

@@ -3,20 +3,19 @@ use mathlib.Core.Path.{_≡_, refl}
 use Prim.Native.Nat.{_+_, _-_, _≤_}
 use native.Mathlib.Nat.{add-zero}
 use native.Mathlib.Omega.{arith}
-use Rattle.bigendian.proofs.Stores.{Written, written-none, written-next}
-use Rattle.tidy.specs.Copies.{part}
-use Rattle.tidy.proofs.Copies.{part-grows}
+use Rattle.lists.proofs.Joined.{Written, written-none, written-next}
+use Rattle.tidy.specs.Copies.{byteFrom}
 use Rattle.tidy.proofs.writer.copy.Statement.{statement}
 use Rattle.tidy.proofs.writer.copy.Tie as tie
 
 abbrev Inv-loop : tie.InvT-loop
-Inv-loop s from width out₀ at i₀ out i = (i ≤ width) × Written (part s from) out₀ at i out (at + i)
+Inv-loop s from width out₀ at i₀ out i = (i ≤ width) × Written (byteFrom s from) out₀ at i out (at + i)
 
 abbrev μ-loop : tie.MeasureT-loop
 μ-loop s from width out₀ at i₀ out i = width - i
 
 loop-holds : tie.Need-loop-holds Inv-loop μ-loop
-loop-holds c = (omega arith, rw add-zero (written-none (part-grows (c .args .s .now) (c .args .from)) (c .args .out .now) (c .args .at)))
+loop-holds c = (omega arith, rw add-zero (written-none (byteFrom (c .args .s .now) (c .args .from)) (c .args .out .now) (c .args .at)))
 
 add-out : tie.Need-add-out Inv-loop μ-loop
 add-out c = omega arith
@@ -40,7 +39,7 @@ loop-again : tie.Need-loop-again Inv-loop μ-loop
 loop-again c =
     let a = c .before .before in
     let k = a .before .args in
-    (omega arith, written-next (part-grows (k .s .now) (k .from)) (k .out .now) (k .at) (a .loop .inv .1) (omega arith) refl)
+    (omega arith, written-next (byteFrom (k .s .now) (k .from)) (k .out .now) (k .at) (a .loop .inv .1) (omega arith) refl)
 
 same-length : tie.Need-same-length Inv-loop μ-loop
 same-length c = c .before .loop .inv .1 .same-length

@@ -2,14 +2,13 @@
 use mathlib.Core.Path.{_≡_}
 use Prim.Native.Nat.{_-_, _≤_}
 use native.Mathlib.Omega.{arith}
-use Rattle.bigendian.proofs.Stores.{Written, written-none, written-room, written-next}
-use Rattle.tidy.specs.Copies.{copies}
-use Rattle.tidy.proofs.Writes.{copies-grow}
+use Rattle.lists.proofs.Joined.{Written, written-none, written-room, written-next}
+use Rattle.tidy.specs.Copies.{copyAt}
 use Rattle.tidy.proofs.writer.put_tones.Statement.{statement}
 use Rattle.tidy.proofs.writer.put_tones.Tie as tie
 
 abbrev Inv-loop : tie.InvT-loop
-Inv-loop s size places rests out₀ at place₀ i₀ out place i = (i ≤ size) × Written (λ n. copies n s places rests) out₀ at i out place
+Inv-loop s size places rests out₀ at place₀ i₀ out place i = (i ≤ size) × Written (copyAt s places rests) out₀ at i out place
 
 abbrev μ-loop : tie.MeasureT-loop
 μ-loop s size places rests out₀ at place₀ i₀ out place i = size - i
@@ -17,7 +16,7 @@ abbrev μ-loop : tie.MeasureT-loop
 loop-holds : tie.Need-loop-holds Inv-loop μ-loop
 loop-holds c =
     let a = c .before .before .args in
-    (omega arith, written-none (copies-grow (a .s .now) (a .places .now) (a .rests .now)) (a .out .now) (a .at))
+    (omega arith, written-none (copyAt (a .s .now) (a .places .now) (a .rests .now)) (a .out .now) (a .at))
 
 mul-put-tone : tie.Need-mul-put-tone Inv-loop μ-loop
 mul-put-tone c = omega arith
@@ -37,8 +36,8 @@ put-tone-requires c κs =
     let l = t .before .loop in
     let k = t .before .before .before .before in
     let p = k .pre .1 in
-    let grows = copies-grow (k .args .s .now) (k .args .places .now) (k .args .rests .now) in
-    (p .0 (l .i), (p .1 .0 (l .i), written-room grows (k .args .out .now) (k .args .at) (l .inv .1) (t .loop-test .taken) (p .1 .1)))
+    let copy = copyAt (k .args .s .now) (k .args .places .now) (k .args .rests .now) in
+    (p .0 (l .i), (p .1 .0 (l .i), written-room copy (k .args .out .now) (k .args .at) (l .inv .1) (t .loop-test .taken) (p .1 .1)))
 
 add-i : tie.Need-add-i Inv-loop μ-loop
 add-i c = omega arith
@@ -51,7 +50,7 @@ loop-again c =
     let a = c .before .before .before .before .before .before .before in
     let k = a .before .before .before .args in
     let e = c .before .before .put-tone .ensures in
-    (omega arith, written-next (copies-grow (k .s .now) (k .places .now) (k .rests .now)) (k .out .now) (k .at) (a .loop .inv .1) (e .0) (e .1))
+    (omega arith, written-next (copyAt (k .s .now) (k .places .now) (k .rests .now)) (k .out .now) (k .at) (a .loop .inv .1) (e .0) (e .1))
 
 same-length : tie.Need-same-length Inv-loop μ-loop
 same-length c = c .before .loop .inv .1 .same-length

@@ -3,14 +3,13 @@ use mathlib.Core.Path.{_≡_}
 use Prim.Native.Nat.{_-_, _≤_}
 use native.Mathlib.Omega.{arith}
 use Rattle.sizes.specs.Sizes.{mostWords}
-use Rattle.bigendian.proofs.Stores.{Written, written-none, written-room, written-next}
-use Rattle.tidyform.specs.Tidy.{mapBytes}
-use Rattle.tidyform.proofs.Parts.{words-grow}
+use Rattle.lists.proofs.Joined.{Written, written-none, written-room, written-next}
+use Rattle.tidyform.specs.Tidy.{wordBytesAt}
 use Rattle.tidy.proofs.writer.put_words.Statement.{statement}
 use Rattle.tidy.proofs.writer.put_words.Tie as tie
 
 abbrev Inv-loop : tie.InvT-loop
-Inv-loop out₀ at maps place₀ word₀ out place word = (word ≤ mostWords) × Written (λ n. mapBytes n maps) out₀ at word out place
+Inv-loop out₀ at maps place₀ word₀ out place word = (word ≤ mostWords) × Written (wordBytesAt maps) out₀ at word out place
 
 abbrev μ-loop : tie.MeasureT-loop
 μ-loop out₀ at maps place₀ word₀ out place word = mostWords - word
@@ -18,7 +17,7 @@ abbrev μ-loop : tie.MeasureT-loop
 loop-holds : tie.Need-loop-holds Inv-loop μ-loop
 loop-holds c =
     let a = c .before .args in
-    (omega arith, written-none (words-grow (a .maps .now)) (a .out .now) (a .at))
+    (omega arith, written-none (wordBytesAt (a .maps .now)) (a .out .now) (a .at))
 
 cast-put-word : tie.Need-cast-put-word Inv-loop μ-loop
 cast-put-word c = omega arith
@@ -33,7 +32,7 @@ put-word-requires : tie.Need-put-word-requires Inv-loop μ-loop
 put-word-requires c κs =
     let a = c .before .before .before in
     let k = a .before .before in
-    written-room (words-grow (k .args .maps .now)) (k .args .out .now) (k .args .at) (a .loop .inv .1) (c .before .before .loop-test .taken) (k .pre)
+    written-room (wordBytesAt (k .args .maps .now)) (k .args .out .now) (k .args .at) (a .loop .inv .1) (c .before .before .loop-test .taken) (k .pre)
 
 add-word : tie.Need-add-word Inv-loop μ-loop
 add-word c = omega arith
@@ -46,7 +45,7 @@ loop-again c =
     let a = c .before .before .before .before .before .before in
     let k = a .before .before .args in
     let e = c .before .before .put-word .ensures in
-    (omega arith, written-next (words-grow (k .maps .now)) (k .out .now) (k .at) (a .loop .inv .1) (e .0) (e .1))
+    (omega arith, written-next (wordBytesAt (k .maps .now)) (k .out .now) (k .at) (a .loop .inv .1) (e .0) (e .1))
 
 same-length : tie.Need-same-length Inv-loop μ-loop
 same-length c = c .before .loop .inv .1 .same-length
