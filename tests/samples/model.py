@@ -1,7 +1,7 @@
 #!/usr/bin/env python3
-"""A model of document 01 and of document 02's requests W1, W3, W5 and W6, written from the papers and the readings of
-docs/DECISIONS.md: reading a sheet with its refusals, check, tidy, the limits, the loadings and the re-fit. Plain and slow; floats
-are worked out in whole numbers and fractions.
+"""A model of document 01 and of document 02's requests W1, W3, W5, W6 and W7, written from the papers and the readings of
+docs/DECISIONS.md: reading a sheet with its refusals, check, tidy, the limits, the loadings, the re-fit and the totals at many
+budgets. Plain and slow; floats are worked out in whole numbers and fractions.
 
   model.py < stdin > stdout      what the test program prints for a text of calls
   model.py --selftest            the paper's own statements
@@ -234,12 +234,17 @@ def said(sheet):
             return line
 
 
-def read(sheet):
-    """The line of an accepted sheet; else Refused(number, place). Refusal 16: "rests of unsilenced tones add up to more than the
-    budget, place 0, in every call that reads a sheet, after 7 and before 8"."""
-    line = said(sheet)
-    if sum(sent_at_rest(line, tone) for tone in line.rests) > line.budget:
+def judge_rests(line, budget):
+    """Refusal 16: "rests of unsilenced tones add up to more than the budget, place 0"."""
+    if sum(sent_at_rest(line, tone) for tone in line.rests) > budget:
         raise Refused(16, 0)
+
+
+def read(sheet):
+    """The line of an accepted sheet; else Refused(number, place), with 16 "in every call that reads a sheet, after 7 and before
+    8"."""
+    line = said(sheet)
+    judge_rests(line, line.budget)
     return line
 
 
@@ -434,6 +439,37 @@ def limits(sheet, room):
     return b"".join(bytes([loading.limits[tone], loading.set_by(tone)]) for tone in loading.tones)
 
 
+def entries_of(listed):
+    """The budgets of a list, 8 bytes each; else refusal 4, "its length judged first with place 0, else with the number, from 0, of
+    the first entry that is too large or below the one before it"."""
+    if len(listed) == 0 or len(listed) % 8 != 0 or len(listed) > 32 * 8:
+        raise Refused(4, 0)
+    entries = [number(listed[i:i + 8]) for i in range(0, len(listed), 8)]
+    for place, entry in enumerate(entries):
+        if entry > RANGES["budget"][1] or place > 0 and entry < entries[place - 1]:
+            raise Refused(4, place)
+    return entries
+
+
+def with_budget(sheet, budget):
+    """The bytes of an accepted sheet with another budget: its operand begins one byte earlier after 08 than after 02."""
+    at = 7 if sheet[3] == 0x02 else 6
+    return sheet[:at] + budget.to_bytes(8, "big") + sheet[at + 8:]
+
+
+def budgets(sheet, listed, room):
+    """For each budget of the list 12 bytes, total bits in 4 and total power in 8: "what a loading with that budget alone would
+    give". Refusal 4 of the list "comes straight after 7, then 16, judged against the first budget, then 8, which here means under
+    12 bytes a budget"; the sheet's own budget is judged by its range alone."""
+    line = said(sheet)
+    entries = entries_of(listed)
+    judge_rests(line, entries[0])
+    if room < 12 * len(entries):
+        raise Refused(8, 0)
+    alone = [call("most", None, with_budget(sheet, entry), 9 * line.size)[0] for entry in entries]
+    return b"".join(bits.to_bytes(4, "big") + power.to_bytes(8, "big") for bits, power in alone)
+
+
 def hold(loading, word, argument, table, moves, sheet):
     """What the paper says of a table beyond how it is found."""
     assert all(bits <= limit for bits, limit in zip(table, loading.limits))
@@ -501,9 +537,9 @@ def tones_of(table):
 
 
 def call_of(row):
-    """The word, the argument and the sheet of a line that is a loading or a re-fit; else None."""
+    """The word, the argument and the sheet of a line that is a loading, a re-fit or a list of budgets; else None."""
     word, _, rest = row.partition(" ")
-    if word not in ("most", "target", "refit", "step"):
+    if word not in ("most", "target", "refit", "step", "budgets"):
         return None
     argument, slash, sheet = rest.partition("/")
     assert slash and len(sheet) > 0, row
@@ -552,13 +588,37 @@ def report_limits(sheet):
     return lines
 
 
+def pairs_of(out):
+    """Bits and power of each budget, from 12 bytes each."""
+    return [(number(out[i:i + 4]), number(out[i + 4:i + 12])) for i in range(0, len(out), 12)]
+
+
+def report_budgets(listed, sheet):
+    """The lines that the test program prints for a list of budgets: it gives 12 bytes for each whole 8 of the list, and one less, as
+    far as its buffer goes."""
+    size = 12 * (len(listed) // 8)
+    try:
+        out = budgets(sheet, listed, ROOM)
+        lines = [" ".join(["budgets"] + ["%d:%d" % pair for pair in pairs_of(out)])]
+        lines += ["exact " + ("same" if budgets(sheet, listed, min(size, ROOM)) == out else "differs")]
+    except Refused as r:
+        lines = ["refused %d %d untouched" % r.args]
+    try:
+        budgets(sheet, listed, min(max(size - 1, 0), ROOM))
+        lines.append("short 0 0 touched")
+    except Refused as r:
+        lines.append("short %d %d untouched" % r.args)
+    return lines
+
+
 def expected(text):
     lines = []
     for row in text.split("\n"):
         if row.startswith("#"):
             lines.append(row)
         elif call_of(row):
-            lines += report_call(*call_of(row))
+            word, *rest = call_of(row)
+            lines += report_budgets(*rest) if word == "budgets" else report_call(word, *rest)
         elif row.startswith("limits /"):
             lines += report_limits(bytes_of(row[len("limits /"):]))
         elif row:
@@ -785,6 +845,42 @@ def refused_tidy(*words):
         return r.args
 
 
+def budgets_answer(sheet, *entries, room=ROOM):
+    """Bits and power of each budget, or the refusal."""
+    try:
+        return pairs_of(budgets(sheet, b"".join(entry.to_bytes(8, "big") for entry in entries), room))
+    except Refused as r:
+        return r.args
+
+
+def refused_list(listed):
+    try:
+        entries_of(listed)
+    except Refused as r:
+        return r.args
+
+
+def budgets_selftest():
+    # The cases below "Sample line" in one list, "equal ones allowed"; "the list replaces the sheet's budget".
+    cases = {2: (0, 0), 3: (1, 3), 38: (5, 27), 39: (6, 39), 50: (6, 39), 51: (7, 51), 170: (9, 123), 171: (10, 171), 2**47: (10, 171)}
+    for own in (0, 39, 2**47):
+        assert budgets_answer(sample(own), *cases) == list(cases.values())
+        assert budgets_answer(sample(own), 39, 39, 39) == [(6, 39)] * 3
+    assert with_budget(sample_in_tenths(100), 5) == sample_in_tenths(100)[:6] + bytes(7) + b"\5" + sample_in_tenths(100)[14:]
+    assert budgets(SAMPLE, bytes(7) + b"\x27", 12) == bytes.fromhex("00000006 0000000000000027")
+    # "empty, not a multiple of 8 bytes, longer than 32 entries", "judged first with place 0".
+    assert [refused_list(bytes(n)) for n in (0, 7, 9, 257, 264)] == [(4, 0)] * 5 and entries_of(bytes(256)) == [0] * 32
+    assert refused_list(bytes(7) + b"\2" + bytes(7) + b"\1" + b"\0") == (4, 0)
+    # "the first entry that is too large or below the one before it".
+    over = 2**47 + 1
+    lists = {(over,): 0, (1, over): 1, (2, 1): 1, (1, 2, 1): 2, (over, 1): 0, (2, 1, over): 1, (1, over, 1): 1, (1, 2, 2, over): 3}
+    assert all(budgets_answer(SAMPLE, *entries) == (4, place) for entries, place in lists.items())
+    # "straight after 7, then 16, judged against the first budget, then 8".
+    assert budgets_answer(SAMPLE + b"\0", 2, 1) == (7, 61) and budgets_answer(rested(2), 2, 1, room=0) == (4, 1)
+    assert budgets_answer(rested(2**47), 2, 3, room=0) == (16, 0) and budgets_answer(rested(0), 3, 4, room=23) == (8, 0)
+    assert budgets_answer(rested(0), 3, 4, room=24) == [(0, 3), (1, 4)]
+
+
 def selftest():
     loading_selftest()
     limits_selftest()
@@ -792,6 +888,7 @@ def selftest():
     floats_selftest()
     readings_selftest()
     rests_selftest()
+    budgets_selftest()
     assert len(SAMPLE) == 61
     # "Gap 256; tone 0 pair, noise 3, cap 15; tone 1 pair, noise 5, cap 2; tone 2 single, noise 1, cap 7; gains 1,
     # masks 100"; "the sample at 39".

@@ -7,7 +7,7 @@ import random, sys
 from fractions import Fraction
 import model
 
-ROWS, SHEETS, LOADINGS, LIMITS = [], 0, 0, 0
+ROWS, SHEETS, LOADINGS, LIMITS, LISTS = [], 0, 0, 0, 0
 
 
 def group(text):
@@ -93,6 +93,27 @@ def limited(sheet, answer=None):
         got = r.args
     assert answer is None or got == answer, (spelled(sheet)[:200], got, answer)
     ROWS.append("limits / " + spelled(sheet))
+
+
+def budgets(entries, sheet, answer=None):
+    """`entries` are budgets, or the list as bytes or text; `answer` is (number, place) of a refusal, the bits and power of each
+    budget, or None where none is noted."""
+    global LISTS
+    LISTS += 1
+    if isinstance(entries, list):
+        entries = b"".join(entry.to_bytes(8, "big") for entry in entries)
+    text = entries if isinstance(entries, str) else hexed(entries, "") or "-"
+    listed = model.bytes_of(text)
+    assert listed == bytes_of(entries)[:model.ROOM], text
+    try:
+        got = model.pairs_of(model.budgets(bytes_of(sheet), listed, model.ROOM))
+    except model.Refused as r:
+        got = r.args
+    assert answer is None or got == answer, (text, spelled(sheet)[:200], got, answer)
+    row = "budgets " + text + " / " + spelled(sheet)
+    assert model.call_of(row) == ("budgets", listed, bytes_of(sheet)[:model.ROOM]), row
+    ROWS.append(row)
+    return got
 
 
 def most(sheet, answer=None, powers=None):
@@ -1509,10 +1530,134 @@ for _ in range(24):
     add(sheet[:-1] + at_rest(dice.randint(0, n), dice.choice((0, 1, 2, 5, FULL))) + END, None)
     add(at_budget(max(0, model.number(sheet[7:15]) - dice.randint(0, 3)), sheet), None)
 
+# Many budgets. `short` below each is the same call with one byte too few: it shows 4 of the list, and 16, before 8.
+
+
+def reached(b, totals):
+    """Bits and power at a budget, of a line whose adding run passes through these totals, the first of them at no bits."""
+    bits = sum(total <= b for total in totals) - 1
+    return bits, totals[bits]
+
+
+def along(entries, totals, sheet):
+    """A list of budgets on such a line."""
+    listed = model.entries_of(model.bytes_of(entries)) if isinstance(entries, str) else entries
+    budgets(entries, sheet, [reached(b, totals) for b in listed])
+
+
+def about(totals):
+    """Each total, and one below each but the first."""
+    return sorted({*totals, *(total - 1 for total in totals[1:])})
+
+
+bare = [0, *ends(sample(0))]
+assert bare == [0, 3, 6, 11, 17, 27, 39, 51, 75, 123, 171]
+group("W7: one budget on the sample line: 39, 38, 0, 2^47, whatever the sheet's own")
+for b, own in [(39, 39), (39, 0), (39, TOP), (38, 39), (0, 171), (TOP, 0)]:
+    along([b], bare, sample(own))
+group("W7: document 01's budgets in one list; two, three")
+budgets([2, 3, 38, 39, 50, 51, 170, 171], sample(39), [(0, 0), (1, 3), (5, 27), (6, 39), (6, 39), (7, 51), (9, 123), (10, 171)])
+for entries in ([38, 39], [0, TOP], [2, 3, 6]):
+    along(entries, bare, sample(50))
+group("W7: equal neighbours: both of two, the first, the last, all of three, at no bits, at 2^47")
+for entries in ([39, 39], [39, 39, 51], [38, 39, 39], [51, 51, 51], [0, 0, 3], [171, TOP, TOP]):
+    along(entries, bare, sample(39))
+group("W7: each total of the sample line's run, and one below; 32 budgets: from 0 to 31, all 39, all 0")
+along(about(bare) + [TOP], bare, sample(0))
+for entries in ("(00*7 ++)*32", "(00*7 27)*32", "00*256"):
+    along(entries, bare, sample(39))
+
+small, of_small = line(1, 39, pair(0)), [0, 3, 9, 21, 45, 93]
+group("W7, 4: a list of no bytes, 7, 9, 15, 257, of 33 entries, and as long as the buffer: place 0")
+for entries in ("-", "00*7", "00*9", "00*7 27 00*7", "00*257", "(00*7 ++)*33", "00*9999"):
+    budgets(entries, small, (4, 0))
+group("W7, 4: the length before the second entry, falling or above 2^47: 33 entries, 17 bytes")
+for entries in ("00*7 05 00*7 04 00*248", "00*7 05 (000080 00*4 01)*32", "00*7 05 00*7 04 00"):
+    budgets(entries, small, (4, 0))
+group("W7, 4: 2^47 + 1 alone, first, in the middle, last, last of 32; 2^64 - 1; not 2^47")
+for entries, place in [([TOP + 1], 0), ([TOP + 1, TOP + 2], 0), ([39, TOP + 1, TOP + 2], 1), ([38, 39, TOP + 1], 2), ([0, 2**64 - 1], 1)]:
+    budgets(entries, small, (4, place))
+budgets("(00*7 ++)*31 000080 00*4 01", small, (4, 31))
+along([TOP - 1, TOP, TOP], of_small, small)
+group("W7, 4: falling by 1, the first pair, the last, to 0, below the neighbour alone, last of 32; high byte first; not these rising")
+for entries, place in [([39, 38], 1), ([40, 39, 50], 1), ([38, 40, 39], 2), ([TOP, 0], 1), ([3, 9, 8, 9], 2), ([256, 255], 1)]:
+    budgets(entries, small, (4, place))
+budgets("(00*7 ++)*31 00*7 1d", small, (4, 31))
+along([255, 256, 2**40 - 1, 2**40], of_small, small)
+group("W7, 4: both faults, either first; both of one entry")
+for entries, place in [([39, TOP + 1, 5], 1), ([39, 38, TOP + 1], 1), ([TOP + 1, 5], 0), ([1, 2, 1, TOP + 1], 2),
+                       ([1, TOP + 2, TOP + 1], 1)]:
+    budgets(entries, small, (4, place))
+
+group("W7: 1 to 7 and 12 to 15 of the sheet before 4 of a falling list and before 16; before one of no bytes, too long, too large; 16 alone")
+faults = [(NOTHING * 700, (1, 0)), (b"", (2, 36)), (b"\xff", (3, 36)), (pair(1, 0) + END, (4, 38)), (pair(3) + END, (5, 37)),
+          (pair(0) + END, (6, 37)), (END + END, (7, 37)), (reading(1, 0) + END, (12, 38)), (reading(1, DEAR) + END, (13, 38)),
+          (at_rest(0, 0) + END, (14, 37)), (pair(1) + at_rest(1, 3) + END, (15, 53))]
+for more, answer in faults:
+    budgets([1, 0], over + more, answer)
+for (more, answer), entries in zip(faults[2::2], ("-", "00*264", [0, TOP + 1], [1])):
+    budgets(entries, over + more, answer)
+group("W7: the sheet's own budget above 2^47 is refused at its place, before the list, after 08 too")
+budgets([39], sample(TOP + 1), (4, 7))
+budgets([2, 1], in_tenths(100, sample(TOP + 1)), (4, 6))
+
+with_rests_of_3 = [3, *ends(rested(3))]
+group("W7, 16 by the first budget: rests of 3 in all: at 3 and above, the sheet's own 0, 2, 2^47; each total of the run, and one below")
+for entries, own in [([3], 0), ([3, 4], 2), ([4, 39], TOP), (about(with_rests_of_3), 0)]:
+    along(entries, with_rests_of_3, rested(own))
+group("W7, 16: the first at 2 or 0, later ones above 3; the sheet's own 2^47, 39, 0")
+for entries, own in [([2], TOP), ([2, 3], 39), ([0, 171, TOP], TOP), ([2, 2, 39], 0)]:
+    budgets(entries, rested(own), (16, 0))
+group("W7: 4 of the list before 16: falling, too large, its length")
+for entries, place in [([1, 0], 1), ([1, TOP + 1], 1), ("00*7 01 00", 0), ("-", 0)]:
+    budgets(entries, over + END, (4, place))
+group("W7, 16: rests of silenced tones are not counted: 2 of 3, all")
+along([1, 3, 4, 7, 8, TOP], [1, 4, 8, 18, 30, 78], line(3, 0, silence(0, 1), *cold))
+budgets([0, 1], line(3, 39, *cold, silence(0, 1)), (16, 0))
+along([0, 3, TOP], [0], line(3, 0, *cold, silence(0, 7)))
+
+group("W7: nothing described; N 256")
+along([0, 39, TOP], [0], line(3, 39))
+along("(00*7 ++)*32", [0], line(256, 0))
+# Rests of 2, 1, 2, 1; cost 3 each, or 30: the first steps are 1, 2, 1, 8, or 28, 29, 28, 89.
+group("W7: tones of all four commands with rests: each total and one below, but the first; the same at 08 of 100")
+totals = [6, 7, 8, 10, 16, 22, 28, 36, 48, 60, 72, 96, 120, 144, 180, 228, 276, 324]
+along(about(totals)[1:], totals, line(4, 0, *alternate))
+totals = [6, 34, 62, 91, 151, 211, 271, 360]
+along(about(totals), totals, in_tenths(100, line(4, TOP, *alternate)))
+group("W7: the sample line's pairs as 09, and as 0a with rests")
+along([2, 3, 38, 39, TOP], bare, as_readings(sample(0), False))
+along([3, 4, 38, 39, TOP], with_rests_of_3, as_readings(rested(3), True))
+
+group("W7: 256 tones: 32 budgets from 0 to 31 on pairs of cost 1; 32 up to 2^47 on pairs and singles by turns; the largest cost")
+along("(00*7 ++)*32", list(range(257)), wide(0, ALL_PAIRS))
+dice = random.Random(7)
+budgets(sorted([dice.randint(0, 9999) for _ in range(28)]) + [12345, 3000000, 50000000, TOP], wide(0, BY_TURNS))
+full = 256 * 32767 * 16776705
+largest = budgets([0, 16776704, 16776705, full // 2, full - 1, full, TOP], wide(39, LARGEST_COST_PAIRS, 65535))
+assert largest[:3] == [(0, 0), (0, 0), (1, 16776705)] and largest[4:] == [(3839, full - 16384 * 16776705), (3840, full), (3840, full)]
+group("W7: 194 pairs with a rest of 1 at 194 and above; 16 at 193; a sheet of 4,096 bytes with 40 rests")
+resting = "(%s)*194" % RESTING % 1
+budgets([194, 195, 387, 388, 391, 392, TOP], wide(0, resting),
+        [(0, 194), (1, 195), (193, 387), (194, 388), (194, 388), (195, 392), (2910, 194 * 65534)])
+budgets([193, 194], wide(TOP, resting), (16, 0))
+budgets([40, 80, 82, 1000000], wide(39, FORTY))
+group("W7: six lines of up to five tones with rests and up to a dozen budgets; in two of them one entry is changed")
+for turn in range(6):
+    sheet = with_rests(dice.randint(2, 5), 0)
+    entries = sorted(dice.randint(model.number(sheet[7:15]), 150) for _ in range(dice.randint(4, 12)))
+    if turn % 3 == 2:
+        entries[dice.randrange(len(entries))] = dice.choice((0, 75, TOP + 1))
+    budgets(entries, at_budget(dice.choice((0, 39, TOP)), sheet))
+
+group("W7: a sheet whose first digit is b, as the word budgets begins")
+for first in ["b0", "bb 00"]:
+    add(first, (3, 0))
+
 text = "".join(r + "\n" for r in ROWS)
 # The test program's buffer for its text (`text_buffer` of crates/samplebuffers).
 assert len(text) <= 262144, len(text)
 for name, what in [("stdin", text), ("stdout", model.expected(text))]:
     with open(sys.argv[1] + "/" + name, "w") as f:
         f.write(what)
-print(SHEETS, "sheets,", LOADINGS, "loadings,", LIMITS, "limits,", len(text), "bytes")
+print(SHEETS, "sheets,", LOADINGS, "loadings,", LIMITS, "limits,", LISTS, "lists of budgets,", len(text), "bytes")

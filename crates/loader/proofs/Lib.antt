@@ -1,3 +1,4 @@
 pub mod Outcomes
 pub mod Promises
+pub mod Totals
 pub mod Written

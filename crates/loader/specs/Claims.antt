@@ -1,12 +1,12 @@
 -- What is promised of the calls besides their outcomes: demand 3 of the bytes and totals at exit, most bits, least power at a set number of
--- bits, the tidy form; and what the technician checks every morning.
+-- bits, the totals for many budgets, the tidy form; and what the technician checks every morning.
 -- Assumes nothing.
 use mathlib.Core.Bool.{true}
 use mathlib.Core.List.{List}
 use mathlib.Core.Path.{_≡_}
 use Prim.Native.Nat.{ℕ, _+_, _*_, _≤_, _<_}
 use lib.ListN.{length, getD, take}
-use Rattle.sizes.specs.Sizes.{bytesATone}
+use Rattle.sizes.specs.Sizes.{bytesATone, totalsBytes}
 use Rattle.bigendian.specs.Number.{number}
 use Rattle.silence.specs.Map.{silenced}
 use Rattle.steps.specs.Tones.{Tones, Table, _!_, sum, noBits, totalBits, totalPower, KeepsLimits, KeepsBudget}
@@ -19,7 +19,9 @@ use Rattle.loadings.specs.declared.Loaded.the-variants as load
 use Rattle.loadings.specs.declared.Refitted.{Refitted}
 use Rattle.loadings.specs.declared.Refitted.the-variants as re-fit
 use Rattle.loadings.specs.Loads.{onTarget, loadAnswer, afterLoading}
-use Rattle.sheet.specs.Reading.{accepted, reading}
+use Rattle.budgetlist.specs.Budgets.{budgetOf, budgetCount}
+use Rattle.sheet.specs.Reading.{accepted, said, reading}
+use Rattle.budgets.specs.Budgets.{withBudget, judgedWith}
 use Rattle.tidyform.specs.Tidy.{tidy}
 use Rattle.tidyform.specs.Claims.{TidyKeeps}
 use Rattle.loader.specs.Calls.{loadMost, refit}
@@ -61,6 +63,29 @@ pub record TargetMet (T : Tones) (budget target : ℕ) (r : Loaded) : Type 0 whe
 
 abbrev pub TargetOn : (sheet : List ℕ) → (target : ℕ) → Loaded → (old : List ℕ) → Type 0
 TargetOn sheet target r old = Loads sheet old (λ l. TargetMet (tones l) (l .budget) target r)
+
+-- W7, the totals of a budget as entry k of the written bytes has them: bits in 4, power in 8.
+abbrev pub bitsAt : (out : List ℕ) → (k : ℕ) → ℕ
+bitsAt out k = number out (totalsBytes * k) 4
+
+abbrev pub powerAt : (out : List ℕ) → (k : ℕ) → ℕ
+powerAt out k = number out (totalsBytes * k + 4) 8
+
+-- They are those of a table within limits and that budget, and no other table within them carries more bits, or as many for less power; and
+-- 'Each answer is what a loading with that budget alone would give': of every sheet that means the line with that budget in place of its own.
+pub record BudgetMet (l : Line) (budget : ℕ) (new : List ℕ) (k : ℕ) : Type 0 where
+  pub bits : bitsAt new k ≡ totalBits (tones l) (mostBits (tones l) budget .table)
+  pub power : powerAt new k ≡ totalPower (tones l) (mostBits (tones l) budget .table)
+  pub limits : KeepsLimits (tones l) (mostBits (tones l) budget .table)
+  pub budget-kept : KeepsBudget (tones l) budget (mostBits (tones l) budget .table)
+  pub best : Best (tones l) budget (mostBits (tones l) budget .table)
+  pub alone : (sheet : List ℕ) (room : ℕ) → reading sheet ≡ accepted (withBudget budget l) → bytesATone * l .size ≤ room
+      → loadAnswer (loadMost sheet room) ≡ load.Totals (bitsAt new k) (powerAt new k)
+
+abbrev pub BudgetsOn : (sheet list old new : List ℕ) → Type 0
+BudgetsOn sheet list old new =
+    (l : Line) → judgedWith list (said sheet) ≡ accepted l → totalsBytes * budgetCount list ≤ length old → (k : ℕ) → k < budgetCount list
+    → BudgetMet l (budgetOf list k) new k
 
 -- Tidying: what was written reads as the same line and tidies to itself.
 pub record WritesTidy (sheet : List ℕ) (l : Line) (new : List ℕ) : Type 0 where

@@ -1,4 +1,4 @@
-// The library: every public call, on bytes. Document 01; document 02, W3.
+// The library: every public call, on bytes. Document 01; document 02, W3 and W7.
 ghost use mathlib.Core.Path.{_≡_};
 ghost use lib.ListN.{length};
 ghost use Rattle.lists.specs.Lent.{before, after};
@@ -8,9 +8,10 @@ ghost use Rattle.refusals.specs.Writing.{writeAnswer, writeNumbers, writeOutcom
 ghost use Rattle.sheet.specs.Reading.{reading};
 ghost use Rattle.sheet.specs.Check.{checking, checkNumbers, checkOutcome};
 ghost use Rattle.limits.specs.Limits.{limiting};
+ghost use Rattle.budgets.specs.Budgets.{budgeting};
 ghost use Rattle.tidy.specs.Tidying.{tidying, tidyAnswer, tidyNumbers, tidyOutcome};
 ghost use Rattle.loader.specs.Calls.{loadMost, loadTarget, refit, oneStep, refitBy};
-ghost use Rattle.loader.specs.Claims.{MostBitsOn, TargetOn, Demand3On, TidyOn};
+ghost use Rattle.loader.specs.Claims.{MostBitsOn, TargetOn, Demand3On, BudgetsOn, TidyOn};
 use loadings::Loaded;
 use loadings::Refitted;
 use refusals::WriteAnswer;
@@ -134,6 +135,16 @@ pub fn limits(s: &[u8], out: &mut [u8]) -> WriteAnswer
     ensures bytes { λ r. ⌜ after out ≡ afterWriting (limiting (reading (before s)) (length (before out))) (before out) ⌝ }
 {
     limits::limits(s, out)
+}
+
+// Writes total bits and total power of the loading for most bits at each budget of a list, in the place of the sheet's own, in one adding pass.
+pub fn budgets(s: &[u8], list: &[u8], out: &mut [u8]) -> WriteAnswer
+    ensures answer { λ r. ⌜ r ≡ writeAnswer (budgeting (before s) (before list) (length (before out))) ⌝ }
+    ensures numbers { λ r. ⌜ writeNumbers r ≡ writeOutcome (budgeting (before s) (before list) (length (before out))) ⌝ }
+    ensures bytes { λ r. ⌜ after out ≡ afterWriting (budgeting (before s) (before list) (length (before out))) (before out) ⌝ }
+    ensures each { λ r. ⌜ BudgetsOn (before s) (before list) (before out) (after out) ⌝ }
+{
+    budgets::budgets(s, list, out)
 }
 
 // Writes the tidy form of a sheet.

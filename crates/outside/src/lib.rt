@@ -4,7 +4,7 @@ ghost use mathlib.Core.Path.{_≡_};
 ghost use Rattle.lists.specs.Lent.{before, after};
 ghost use Rattle.refusals.specs.Writing.{writeNumbers};
 ghost use Rattle.answers.specs.Answers.{code, answered, Says};
-ghost use Rattle.outside.specs.Outside.{outsideLimits, outsideLimited};
+ghost use Rattle.outside.specs.Outside.{outsideLimits, outsideLimited, outsideBudgets, outsideBudgeted};
 use answers::Reply;
 use refusals::WriteAnswer;
 use sizes::ANSWER_BYTES;
@@ -36,4 +36,25 @@ pub extern "C" fn outside_limits(sheet: &[u8], out: &mut [u8], answer: &mut [u8]
     }
     let limited = loader::limits(sheet, out);
     answers::put(of_write(limited), answer)
+}
+
+// Without room for the answers the refusals come as for a buffer of no bytes, which has no room either: 8 is the last of them.
+#[no_mangle]
+pub extern "C" fn outside_budgets(
+    sheet: &[u8],
+    list: &[u8],
+    out: &mut [u8],
+    answer: &mut [u8],
+) -> u64
+    ensures returned { λ r. ⌜ r ≡ code (outsideBudgets (before sheet) (before list) (before out) (before answer)) ⌝ }
+    ensures bytes { λ r. ⌜ after out ≡ outsideBudgeted (before sheet) (before list) (before out) (before answer) ⌝ }
+    ensures answers { λ r. ⌜ after answer ≡ answered (outsideBudgets (before sheet) (before list) (before out) (before answer)) (before answer) ⌝ }
+{
+    if answer.len() < ANSWER_BYTES {
+        let mut none: [u8; 0] = [0; 0];
+        let refused = loader::budgets(sheet, list, &mut none);
+        return of_write(refused).returned;
+    }
+    let written = loader::budgets(sheet, list, out);
+    answers::put(of_write(written), answer)
 }

@@ -1,4 +1,4 @@
-// The loadings, the re-fits and the limits of the test program: each call made, and what it answers printed.
+// The loadings, the re-fits, the limits and the totals for many budgets of the test program: each call made, and what it answers printed.
 //
 //   loaded 6 39              bits and power; of a re-fit `refitted`, and the moves besides
 //   table 3:21 2:15 1:3      bits:power of each tone
@@ -9,6 +9,10 @@
 // first two lines are one:
 //
 //   limits 5:mask 2:cap 3:mask   limit:what set it of each tone
+//
+// and of many budgets, 12 bytes each, they are
+//
+//   budgets 0:0 6:39             bits:power for each budget
 use crate::printing::print;
 use crate::printing::print_number;
 use crate::printing::print_pair;
@@ -26,19 +30,22 @@ use samplebuffers::same;
 use samplebuffers::wide;
 use samplebuffers::within;
 use sheet::Checked;
+use sizes::BUDGET_BYTES;
 use sizes::LIMIT_BYTES;
 use sizes::TONE_BYTES;
+use sizes::TOTALS_BYTES;
 
 // A table of more bytes than this, those of 32 tones, is printed as a sum.
 const PRINTED_BYTES: usize = 32 * TONE_BYTES;
 
-// A loading, a re-fit or the limits.
+// A loading, a re-fit, the limits or the totals for many budgets.
 pub(crate) enum Call {
     Most,
     Target(u32),
     Refit,
     Step,
     Limits,
+    Budgets,
 }
 
 // What a call answers: a refusal's number and place, or number 0 and the totals. A loading has no
@@ -98,7 +105,7 @@ fn refitted(answer: Refitted) -> Totals {
     }
 }
 
-// Makes a call. A loading takes no start, and the limits take none.
+// Makes a call. A re-fit takes a start, and many budgets their list in its place; the others take neither.
 fn made(call: Call, sheet: &[u8], start: &[u8], table: &mut [u8]) -> Totals {
     match call {
         Call::Most => loaded(loader::load_most(sheet, table)),
@@ -106,6 +113,7 @@ fn made(call: Call, sheet: &[u8], start: &[u8], table: &mut [u8]) -> Totals {
         Call::Refit => refitted(loader::refit(sheet, start, table)),
         Call::Step => refitted(loader::refit_step(sheet, start, table)),
         Call::Limits => written(loader::limits(sheet, table)),
+        Call::Budgets => written(loader::budgets(sheet, start, table)),
     }
 }
 
@@ -117,11 +125,12 @@ fn tones_of(sheet: &[u8]) -> u16 {
     }
 }
 
-// How many bytes a call writes for so many tones.
-fn written_bytes(call: Call, tones: u16) -> usize {
+// How many bytes a call writes: so many a tone of its sheet, or a budget of its list.
+fn written_bytes(call: Call, sheet: &[u8], start: &[u8]) -> usize {
     match call {
-        Call::Limits => LIMIT_BYTES * tones as usize,
-        _ => TONE_BYTES * tones as usize,
+        Call::Limits => LIMIT_BYTES * tones_of(sheet) as usize,
+        Call::Budgets => TOTALS_BYTES * (start.len() / BUDGET_BYTES),
+        _ => TONE_BYTES * tones_of(sheet) as usize,
     }
 }
 
@@ -129,6 +138,7 @@ fn written_bytes(call: Call, tones: u16) -> usize {
 fn print_written(call: Call, t: Totals, written: &[u8]) {
     match call {
         Call::Limits => print_limits(written),
+        Call::Budgets => print_budgets(written),
         Call::Most | Call::Target(_) => {
             print_pair(b"loaded ", t.bits as u64, t.power);
             print(b"\n");
@@ -162,6 +172,20 @@ fn print_limits(limits: &[u8]) {
         print_number(wide(limits[at]));
         print_set_by(limits::set_by(limits[at + 1]));
         at += LIMIT_BYTES;
+    }
+    print(b"\n");
+}
+
+// Prints totals, 12 bytes a budget, as bits:power with a blank before each.
+fn print_budgets(totals: &[u8]) {
+    print(b"budgets");
+    let mut at = 0;
+    while TOTALS_BYTES <= totals.len() - at {
+        print(b" ");
+        print_number(bigendian::number_at(totals, at, 4));
+        print(b":");
+        print_number(bigendian::number_at(totals, at + 4, 8));
+        at += TOTALS_BYTES;
     }
     print(b"\n");
 }
@@ -232,10 +256,10 @@ fn show_short(call: Call, sheet: &[u8], start: &[u8], bytes: usize) {
     print_touched(&table);
 }
 
-// Prints what a call answers: the totals and the table, or the limits, or the refusal; then what it
+// Prints what a call answers: the totals and the table, or what else it writes, or the refusal; then what it
 // does with just enough room, and with too little.
 pub(crate) fn show(call: Call, sheet: &[u8], start: &[u8]) {
-    let bytes = written_bytes(call, tones_of(sheet));
+    let bytes = written_bytes(call, sheet, start);
     let mut table = filled();
     let t = made(call, sheet, start, &mut table);
     if t.number == 0 {

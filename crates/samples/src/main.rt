@@ -6,8 +6,9 @@
 //   refit START / SHEET    the re-fit of a starting table
 //   step START / SHEET     one step of it
 //   limits / SHEET         the limit of each tone, and what set it
+//   budgets LIST / SHEET   total bits and total power for each budget of a list
 //
-// SHEET and START are bytes as crate sampletext reads them, and `-` where there are none. An empty
+// SHEET, START and LIST are bytes as crate sampletext reads them, and `-` where there are none. An empty
 // line is skipped, and a line that starts with `#` is written back.
 mod loads;
 mod printing;
@@ -128,9 +129,17 @@ fn show_call(first: u8, text: &[u8]) {
         b't' => Call::Target(sampletext::number_after(text, blank)),
         b'r' => Call::Refit,
         b'l' => Call::Limits,
+        b'b' => Call::Budgets,
         _ => Call::Step,
     };
     loads::show(call, &sheet[..n], &start[..m]);
+}
+
+// Shows a sheet: a line of bytes.
+fn show_bytes(text: &[u8]) {
+    let mut sheet = filled();
+    let n = read_bytes(text, &mut sheet);
+    show_sheet(&sheet[..n]);
 }
 
 fn show_line(text: &[u8]) {
@@ -144,11 +153,15 @@ fn show_line(text: &[u8]) {
             print(b"\n");
         }
         b'm' | b't' | b'r' | b's' | b'l' => show_call(first, text),
-        _ => {
-            let mut sheet = filled();
-            let n = read_bytes(text, &mut sheet);
-            show_sheet(&sheet[..n]);
+        b'b' => {
+            // A sheet may begin with the digit b; no digit follows it in the word.
+            if 1 < text.len() && text[1] == b'u' {
+                show_call(first, text);
+            } else {
+                show_bytes(text);
+            }
         }
+        _ => show_bytes(text),
     }
 }
 

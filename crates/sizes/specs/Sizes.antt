@@ -82,6 +82,16 @@ bytesATone = 9
 abbrev pub limitBytesATone : ℕ
 limitBytesATone = 2
 
+-- W7: a list of budgets, 'longer than 32 entries', '8 bytes each'; 'total bits and total power for each, 4 and 8 bytes'
+abbrev pub mostBudgets : ℕ
+mostBudgets = 32
+
+abbrev pub budgetBytes : ℕ
+budgetBytes = 8
+
+abbrev pub totalsBytes : ℕ
+totalsBytes = 12
+
 -- 'an answer buffer of at least 24 bytes'
 abbrev pub answerRoom : ℕ
 answerRoom = 24

@@ -52,5 +52,12 @@ pub const TONE_BYTES: usize = 9;
 // The bytes of a tone among the limits that a call writes: its limit, and what set it.
 pub const LIMIT_BYTES: usize = 2;
 
+// The most budgets of a list, the bytes of each, and the bytes of the totals that a call writes for it: bits in 4, power in 8.
+pub const BUDGETS: usize = 32;
+
+pub const BUDGET_BYTES: usize = 8;
+
+pub const TOTALS_BYTES: usize = 12;
+
 // The least room for the answers of a host call, in bytes.
 pub const ANSWER_BYTES: usize = 24;

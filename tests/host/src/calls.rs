@@ -60,9 +60,19 @@ mod host {
     }
 }
 
-/// liboutside.a: the library's call that the C host does not have, by its conventions.
+/// liboutside.a: the library's calls that the C host does not have, by its conventions.
 mod outside {
     extern "C" {
+        pub fn outside_budgets(
+            sheet: *const u8,
+            sheet_length: usize,
+            list: *const u8,
+            list_length: usize,
+            totals: *mut u8,
+            totals_length: usize,
+            answer: *mut u8,
+            answer_length: usize,
+        ) -> u64;
         pub fn outside_limits(
             sheet: *const u8,
             sheet_length: usize,
@@ -86,10 +96,11 @@ pub enum Call {
     RefitStep,
     Tidy,
     Limits,
+    Budgets,
 }
 
 impl Call {
-    pub const ALL: [Call; 7] = [
+    pub const ALL: [Call; 8] = [
         Call::Check,
         Call::LoadMost,
         Call::LoadTarget,
@@ -97,6 +108,7 @@ impl Call {
         Call::RefitStep,
         Call::Tidy,
         Call::Limits,
+        Call::Budgets,
     ];
 
     pub fn name(self) -> &'static str {
@@ -108,12 +120,13 @@ impl Call {
             Call::RefitStep => "refit_step",
             Call::Tidy => "tidy",
             Call::Limits => "limits",
+            Call::Budgets => "budgets",
         }
     }
 
     /// Whether the C host has the call.
     pub fn is_of_host(self) -> bool {
-        self != Call::Limits
+        !matches!(self, Call::Limits | Call::Budgets)
     }
 
     /// The name of the call's function in its archive.
@@ -125,11 +138,27 @@ impl Call {
     /// The refusals that the call can give.
     pub fn refusals(self) -> &'static [u64] {
         match self {
-            Call::Check | Call::LoadMost | Call::Tidy | Call::Limits => {
+            Call::Check | Call::LoadMost | Call::Tidy | Call::Limits | Call::Budgets => {
                 &[1, 2, 3, 4, 5, 6, 7, 8, 12, 13, 14, 15, 16]
             }
             Call::LoadTarget => &[1, 2, 3, 4, 5, 6, 7, 8, 11, 12, 13, 14, 15, 16],
             Call::Refit | Call::RefitStep => &[1, 2, 3, 4, 5, 6, 7, 8, 9, 10, 12, 13, 14, 15, 16],
+        }
+    }
+
+    /// What is read besides the sheet, if anything is.
+    pub fn source(self, input: &Input) -> &[u8] {
+        match self {
+            Call::Budgets => &input.list,
+            _ => &input.start,
+        }
+    }
+
+    /// What the source is called.
+    pub fn source_name(self) -> &'static str {
+        match self {
+            Call::Budgets => "list",
+            _ => "starting table",
         }
     }
 
@@ -139,6 +168,7 @@ impl Call {
             Call::Check => &[],
             Call::Tidy => &input.tidy,
             Call::Limits => &input.limits,
+            Call::Budgets => &input.totals,
             _ => &input.table,
         }
     }
@@ -148,6 +178,7 @@ impl Call {
         match self {
             Call::Tidy => "tidy sheet",
             Call::Limits => "limits",
+            Call::Budgets => "totals",
             _ => "table",
         }
     }
@@ -156,13 +187,13 @@ impl Call {
     pub unsafe fn ours(
         self,
         sheet: Buffer,
-        start: Buffer,
+        source: Buffer,
         target: u32,
         table: Buffer,
         answer: Buffer,
     ) -> u64 {
         use {host::*, outside::*};
-        let ((sheet, sheet_length), (start, start_length)) = (sheet, start);
+        let ((sheet, sheet_length), (source, source_length)) = (sheet, source);
         let ((table, table_length), (answer, answer_length)) = (table, answer);
         match self {
             Call::Check => toqhaymi_check(sheet, sheet_length, answer, answer_length),
@@ -178,26 +209,23 @@ impl Call {
                 answer,
                 answer_length,
             ),
-            Call::Refit => toqhaymi_refit(
-                sheet,
-                sheet_length,
-                start,
-                start_length,
-                table,
-                table_length,
-                answer,
-                answer_length,
-            ),
-            Call::RefitStep => toqhaymi_refit_step(
-                sheet,
-                sheet_length,
-                start,
-                start_length,
-                table,
-                table_length,
-                answer,
-                answer_length,
-            ),
+            Call::Refit | Call::RefitStep | Call::Budgets => {
+                let with_source = match self {
+                    Call::Refit => toqhaymi_refit,
+                    Call::RefitStep => toqhaymi_refit_step,
+                    _ => outside_budgets,
+                };
+                with_source(
+                    sheet,
+                    sheet_length,
+                    source,
+                    source_length,
+                    table,
+                    table_length,
+                    answer,
+                    answer_length,
+                )
+            }
             Call::Tidy => {
                 toqhaymi_tidy(sheet, sheet_length, table, table_length, answer, answer_length)
             }
@@ -210,7 +238,8 @@ impl Call {
     /// The archive's function and its arguments, as words in order.
     pub fn entry(self, buffers: [Buffer; 4], target: u32) -> (*const (), [usize; 8]) {
         use {host::*, outside::*};
-        let [sheet, start, table, answer] = buffers.map(|(bytes, length)| [bytes as usize, length]);
+        let [sheet, source, table, answer] =
+            buffers.map(|(bytes, length)| [bytes as usize, length]);
         let target = [target as usize];
         let (function, given) = match self {
             Call::Check => (toqhaymi_check as *const (), [sheet, answer].concat()),
@@ -218,12 +247,15 @@ impl Call {
             Call::LoadTarget => {
                 (toqhaymi_load_target as *const (), [&sheet[..], &target, &table, &answer].concat())
             }
-            Call::Refit => (toqhaymi_refit as *const (), [sheet, start, table, answer].concat()),
+            Call::Refit => (toqhaymi_refit as *const (), [sheet, source, table, answer].concat()),
             Call::RefitStep => {
-                (toqhaymi_refit_step as *const (), [sheet, start, table, answer].concat())
+                (toqhaymi_refit_step as *const (), [sheet, source, table, answer].concat())
             }
             Call::Tidy => (toqhaymi_tidy as *const (), [sheet, table, answer].concat()),
             Call::Limits => (outside_limits as *const (), [sheet, table, answer].concat()),
+            Call::Budgets => {
+                (outside_budgets as *const (), [sheet, source, table, answer].concat())
+            }
         };
         let mut words = [0; 8];
         words[..given.len()].copy_from_slice(&given);
@@ -234,7 +266,7 @@ impl Call {
     pub fn papers(
         self,
         sheet: &[u8],
-        start: &[u8],
+        source: &[u8],
         target: u32,
         destination: &mut [u8],
         answer: &mut [u8],
@@ -243,10 +275,11 @@ impl Call {
             Call::Check => paper::check(sheet, answer),
             Call::LoadMost => paper::load_most(sheet, destination, answer),
             Call::LoadTarget => paper::load_target(sheet, target, destination, answer),
-            Call::Refit => paper::refit(sheet, start, destination, answer),
-            Call::RefitStep => paper::refit_step(sheet, start, destination, answer),
+            Call::Refit => paper::refit(sheet, source, destination, answer),
+            Call::RefitStep => paper::refit_step(sheet, source, destination, answer),
             Call::Tidy => paper::tidy(sheet, destination, answer),
             Call::Limits => paper::limits(sheet, destination, answer),
+            Call::Budgets => paper::budgets::one_by_one(sheet, source, destination, answer),
         }
     }
 }
@@ -309,15 +342,15 @@ impl Lent {
 /// What the archive's call leaves, or which byte it should not have touched.
 pub fn ours(call: Call, input: &Input) -> Result<Outcome, String> {
     let mut sheet = Lent::new(&input.sheet);
-    let mut start = Lent::new(&input.start);
+    let mut source = Lent::new(call.source(input));
     let mut destination = Lent::new(call.destination(input));
     let mut answer = Lent::new(&input.answer);
     // SAFETY: four buffers of their own; a byte touched outside them is a canary.
     let returned = unsafe {
-        call.ours(sheet.lend(), start.lend(), input.target, destination.lend(), answer.lend())
+        call.ours(sheet.lend(), source.lend(), input.target, destination.lend(), answer.lend())
     };
     sheet.only_read("sheet", &input.sheet)?;
-    start.only_read("starting table", &input.start)?;
+    source.only_read(call.source_name(), call.source(input))?;
     let destination = destination.returned(call.destination_name())?;
     Ok(Outcome { returned, destination, answer: answer.returned("answer")? })
 }
@@ -326,7 +359,7 @@ pub fn ours(call: Call, input: &Input) -> Result<Outcome, String> {
 pub fn papers(call: Call, input: &Input) -> Outcome {
     let mut destination = call.destination(input).to_vec();
     let mut answer = input.answer.clone();
-    let returned =
-        call.papers(&input.sheet, &input.start, input.target, &mut destination, &mut answer);
+    let source = call.source(input);
+    let returned = call.papers(&input.sheet, source, input.target, &mut destination, &mut answer);
     Outcome { returned, destination, answer }
 }

@@ -2,7 +2,7 @@
 
 use crate::calls::{self, Call, Outcome};
 use crate::inputs::{input, Input, SAMPLE_INPUTS};
-use crate::{limits, totals};
+use crate::{budgets, limits, totals};
 
 /// One input of one call.
 #[derive(Clone, Copy, PartialEq, Eq)]
@@ -66,6 +66,7 @@ fn judge(call: Call, input: &Input, outcome: &Outcome) -> Result<(), String> {
         _ if outcome.returned != 0 => Ok(()),
         Call::Check | Call::Tidy => Ok(()),
         Call::Limits => limits::judge(input, outcome),
+        Call::Budgets => budgets::judge(input, outcome),
         _ => totals::judge(call, input, outcome),
     }
 }
@@ -103,8 +104,9 @@ pub fn hex(bytes: &[u8]) -> String {
 fn given(call: Call, input: &Input) -> String {
     let mut text = format!("{}\n", call.entry_name());
     text += &format!("  sheet, {} bytes: {}\n", input.sheet.len(), hex(&input.sheet));
-    if matches!(call, Call::Refit | Call::RefitStep) {
-        text += &format!("  start, {} bytes: {}\n", input.start.len(), hex(&input.start));
+    if matches!(call, Call::Refit | Call::RefitStep | Call::Budgets) {
+        let (name, source) = (call.source_name(), call.source(input));
+        text += &format!("  {name}, {} bytes: {}\n", source.len(), hex(source));
     }
     if call == Call::LoadTarget {
         text += &format!("  target {}\n", input.target);

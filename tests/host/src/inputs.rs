@@ -1,10 +1,13 @@
-//! What a call is given: sheet, starting table, target and buffer lengths, all
-//! from a seed and an index. Seed 0 is the sample sheet of document 01, then one with
-//! its gap in tenths of a decibel, one with readings, and one with rests, each with one
-//! byte changed, cut off or added, in every way; other seeds are random.
+//! What a call is given: sheet, starting table, target, list of budgets and buffer
+//! lengths, all from a seed and an index. Seed 0 is the sample sheet of document 01, then
+//! one with its gap in tenths of a decibel, one with readings, one with rests, and then a
+//! list of budgets, each with one byte changed, cut off or added, in every way; other
+//! seeds are random.
 
 use crate::damage::{damaged, WAYS};
-use crate::paper::line::{read_bytes, Line};
+use crate::lists::{powers, to_bytes, Around};
+use crate::paper::budgets::{BYTES_A_BUDGET, BYTES_OF_TOTALS};
+use crate::paper::line::{read_bytes, Line, LARGEST_POWER};
 use crate::paper::run::Running;
 use crate::paper::{tidy_length, ANSWER_BYTES, BYTES_A_LIMIT, BYTES_A_TONE};
 use crate::random::Random;
@@ -15,11 +18,13 @@ pub struct Input {
     pub sheet: Vec<u8>,
     pub start: Vec<u8>,
     pub target: u32,
+    pub list: Vec<u8>,
     /// What the lent buffers hold before the call.
     pub table: Vec<u8>,
     pub tidy: Vec<u8>,
     pub answer: Vec<u8>,
     pub limits: Vec<u8>,
+    pub totals: Vec<u8>,
 }
 
 /// A sheet of seed 0, and what its calls are given with it.
@@ -27,25 +32,52 @@ struct Sample {
     sheet: &'static [u8],
     start: [u8; 3],
     target: u32,
+    list: [u64; BUDGETS],
 }
+
+/// How many budgets the samples have.
+const BUDGETS: usize = 5;
 
 const SAMPLES: [Sample; 4] = [
-    Sample { sheet: &SAMPLE, start: [0, 2, 3], target: 6 },
-    Sample { sheet: &IN_TENTHS, start: [0, 2, 3], target: 6 },
-    Sample { sheet: &READINGS, start: [0, 2, 3], target: 6 },
-    // Both leave tone 1 at no bits: the re-fit by its first step.
-    Sample { sheet: &RESTS, start: [0, 1, 0], target: 3 },
+    Sample { sheet: &SAMPLE, start: [0, 2, 3], target: 6, list: [2, 38, 39, 39, LARGEST_POWER] },
+    Sample {
+        sheet: &IN_TENTHS,
+        start: [0, 2, 3],
+        target: 6,
+        list: [0, 2_559, 2_560, 70_000, LARGEST_POWER],
+    },
+    Sample {
+        sheet: &READINGS,
+        start: [0, 2, 3],
+        target: 6,
+        list: [0, 1_000_000_000, 1_000_000_000, 1 << 36, LARGEST_POWER],
+    },
+    // Both leave tone 1 at no bits: the re-fit by its first step. The budgets begin with
+    // the sum of the rests.
+    Sample {
+        sheet: &RESTS,
+        start: [0, 1, 0],
+        target: 3,
+        list: [66_061, 66_062, 262_143, 262_144, LARGEST_POWER],
+    },
 ];
 
-/// How many inputs a sheet of seed 0 makes: each byte at each value, each cut, each
+/// How many inputs some bytes of seed 0 make: each byte at each value, each cut, each
 /// byte added.
-const fn changes(sheet: &[u8]) -> usize {
-    256 * sheet.len() + sheet.len() + 256
+const fn changes(length: usize) -> usize {
+    256 * length + length + 256
 }
 
-/// How many inputs seed 0 has.
-pub const SAMPLE_INPUTS: u64 =
-    (changes(&SAMPLE) + changes(&IN_TENTHS) + changes(&READINGS) + changes(&RESTS)) as u64;
+/// How many inputs seed 0 has: of each sheet, and of the last one's list.
+pub const SAMPLE_INPUTS: u64 = {
+    let mut inputs = changes(BYTES_A_BUDGET * BUDGETS);
+    let mut sample = 0;
+    while sample < SAMPLES.len() {
+        inputs += changes(SAMPLES[sample].sheet.len());
+        sample += 1;
+    }
+    inputs as u64
+};
 
 pub fn input(seed: u64, index: u64) -> Input {
     let mut random = Random::new(seed, index);
@@ -68,34 +100,45 @@ pub fn sheet(random: &mut Random, index: u64) -> Vec<u8> {
     }
 }
 
-/// A sheet with the change of an index.
-fn changed(sheet: &[u8], index: usize) -> Vec<u8> {
-    let mut sheet = sheet.to_vec();
-    let (length, value) = (sheet.len(), (index % 256) as u8);
+/// A sheet or a list with the change of an index.
+fn changed(bytes: &[u8], index: usize) -> Vec<u8> {
+    let mut bytes = bytes.to_vec();
+    let (length, value) = (bytes.len(), (index % 256) as u8);
     match index / 256 {
-        place if place < length => sheet[place] = value,
-        _ if index < 257 * length => sheet.truncate(index - 256 * length),
-        _ => sheet.push(value),
+        place if place < length => bytes[place] = value,
+        _ if index < 257 * length => bytes.truncate(index - 256 * length),
+        _ => bytes.push(value),
     }
-    sheet
+    bytes
 }
 
 /// The input of an index of seed 0.
 fn sample_input(random: &mut Random, mut index: usize) -> Input {
-    let mut samples = SAMPLES.iter();
-    let mut sample = samples.next().expect("a sample");
-    while index >= changes(sample.sheet) {
-        index -= changes(sample.sheet);
-        sample = samples.next().expect("an index of seed 0");
+    for sample in &SAMPLES {
+        let changes = changes(sample.sheet.len());
+        if index < changes {
+            let sheet = changed(sample.sheet, index);
+            return input_like(random, sample, sheet, to_bytes(&sample.list));
+        }
+        index -= changes;
     }
+    let sample = &SAMPLES[SAMPLES.len() - 1];
+    let list = changed(&to_bytes(&sample.list), index);
+    input_like(random, sample, sample.sheet.to_vec(), list)
+}
+
+/// A sample's input with another sheet or list.
+fn input_like(random: &mut Random, sample: &Sample, sheet: Vec<u8>, list: Vec<u8>) -> Input {
     Input {
-        sheet: changed(sample.sheet, index),
+        sheet,
         start: sample.start.to_vec(),
         target: sample.target,
+        list,
         table: random.bytes(256 * BYTES_A_TONE),
         tidy: random.bytes(READINGS.len() + 3),
         answer: random.bytes(ANSWER_BYTES + 8),
         limits: random.bytes(256 * BYTES_A_LIMIT),
+        totals: random.bytes(BYTES_OF_TOTALS * BUDGETS + 8),
     }
 }
 
@@ -121,30 +164,46 @@ fn input_for_refused(random: &mut Random, sheet: Vec<u8>) -> Input {
     let tones = random.between(1, 256) as usize;
     let length = length(random, tones);
     let start = random.bytes(length).iter().map(|byte| byte % 4).collect();
-    Input {
+    let input = Input {
         start,
         target: random.between(0, 40) as u32,
         table: lent(random, BYTES_A_TONE * tones),
         tidy: lent(random, sheet.len().min(5000)),
         answer: lent(random, ANSWER_BYTES),
         limits: lent(random, BYTES_A_LIMIT * tones),
+        list: Vec::new(),
+        totals: Vec::new(),
         sheet,
-    }
+    };
+    let around = Around::any(random);
+    with_list(random, around, input)
 }
 
 fn input_for(random: &mut Random, sheet: Vec<u8>, line: &Line) -> Input {
     let mut run = Running::nothing(line);
     let limits = run.limit[..line.tones].to_vec();
-    while run.add() {}
-    Input {
+    let mut all = powers(&mut run);
+    let input = Input {
         start: start(random, &limits, &run.bits[..line.tones]),
         target: target(random, &limits, run.total_bits as u32),
         table: lent(random, BYTES_A_TONE * line.tones),
         tidy: lent(random, tidy_length(line)),
         answer: lent(random, ANSWER_BYTES),
         limits: lent(random, BYTES_A_LIMIT * line.tones),
+        list: Vec::new(),
+        totals: Vec::new(),
         sheet,
-    }
+    };
+    run.budget = LARGEST_POWER;
+    all.extend(powers(&mut run));
+    with_list(random, Around::line(line, all), input)
+}
+
+/// With a list of budgets, and a buffer for its totals.
+fn with_list(random: &mut Random, around: Around, input: Input) -> Input {
+    let list = around.list(random);
+    let totals = lent(random, BYTES_OF_TOTALS * (list.len() / BYTES_A_BUDGET));
+    Input { list, totals, ..input }
 }
 
 /// At an end of what can be carried, next to it, or any.

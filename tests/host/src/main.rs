@@ -1,5 +1,6 @@
 //! Tests from outside: tests/run and tests/bench start them.
 
+mod budgets;
 mod calls;
 mod compare;
 mod damage;
@@ -8,6 +9,7 @@ mod floats;
 mod guard;
 mod inputs;
 mod limits;
+mod lists;
 mod named;
 mod paper;
 mod program;
@@ -31,7 +33,7 @@ fn number(word: &str) -> Result<u64, String> {
 
 fn call(word: &str) -> Result<Call, String> {
     let call = Call::ALL.into_iter().find(|call| call.name() == word);
-    call.ok_or_else(|| format!("'{word}' is not one of the seven calls"))
+    call.ok_or_else(|| format!("'{word}' is not one of the eight calls"))
 }
 
 fn run(words: &[&str]) -> Result<String, String> {

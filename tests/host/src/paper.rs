@@ -1,8 +1,9 @@
 //! An independent loader, written from document 01 and document 02's requests W1, W3,
-//! W5 and W6: the six calls as the C host makes them, the limits by its conventions, and
-//! what the bench program prints. It keeps each tone's next free and last held step;
-//! each move scans all of them for the earliest free and the latest held.
+//! W5, W6 and W7: the six calls as the C host makes them, the limits and many budgets by
+//! its conventions, and what the bench program prints. It keeps each tone's next free and
+//! last held step; each move scans all of them for the earliest free and the latest held.
 
+pub mod budgets;
 pub mod gap;
 pub mod line;
 pub mod reading;
@@ -38,7 +39,7 @@ fn returned(outcome: Result<(), Refusal>) -> u64 {
     }
 }
 
-/// Refusal 8: a table, a tidy sheet or the limits need `bytes`, the answers need 24.
+/// Refusal 8: a table, a tidy sheet, limits or totals need `bytes`, the answers need 24.
 fn room(destination: &[u8], bytes: usize, answer: &[u8]) -> Result<(), Refusal> {
     if destination.len() < bytes || answer.len() < ANSWER_BYTES {
         return refuse(8, 0);

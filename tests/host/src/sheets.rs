@@ -298,6 +298,13 @@ pub fn bare(tones: usize, gap: Gap, budget: u64) -> Commands {
     commands
 }
 
+/// A sheet that is sound so far, with another budget.
+pub fn with_budget(sheet: &[u8], budget: u64) -> Vec<u8> {
+    // Its operand follows the size, the gap by 02 or 08, and its own command byte.
+    let place = if sheet[3] == 2 { 7 } else { 6 };
+    [&sheet[..place], &budget.to_be_bytes(), &sheet[place + 8..]].concat()
+}
+
 fn described(random: &mut Random, tones: usize) -> Vec<usize> {
     let mut numbers: Vec<usize> = (0..tones).collect();
     let order = random.below(3);

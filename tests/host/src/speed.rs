@@ -1,15 +1,20 @@
-//! Our time and the independent loader's, side by side; and what the time of a step, and
-//! that of the limits, goes to.
+//! Our time and the independent loader's, side by side; what the time of a step, and that
+//! of the limits, goes to; and the time of many budgets beside that of loadings.
 
 use crate::calls::{self, Buffer, Call};
 use crate::inputs::Input;
+use crate::lists::{powers, to_bytes};
+use crate::paper::budgets::{
+    in_one_pass, one_by_one, BYTES_A_BUDGET, BYTES_OF_TOTALS, MOST_BUDGETS,
+};
 use crate::paper::gap::Gap;
 use crate::paper::line::{cost, read, Line, LARGEST_POWER};
 use crate::paper::reading::Reading;
 use crate::paper::run::Running;
 use crate::paper::{ANSWER_BYTES, BYTES_A_LIMIT, BYTES_A_TONE};
-use crate::sheets::{bare, reading, rest, silence, tone};
+use crate::sheets::{bare, reading, rest, silence, tone, with_budget};
 use crate::stack;
+use crate::totals::number;
 use std::hint::black_box;
 use std::time::{Duration, Instant};
 
@@ -55,21 +60,27 @@ const NO_GAP: Gap = Gap::Whole(256);
 const BOUND: Shape =
     Shape { name: "bound", bound: true, ties: false, gap: CABLE_GAP, by: By::Whole, rests: false };
 
+const UNBOUND: Shape = Shape { name: "unbound", bound: false, ..BOUND };
+const RESTED: Shape = Shape { name: "bound, rests", rests: true, ..BOUND };
+
 const SHAPES: [Shape; 9] = [
     BOUND,
     Shape { name: "bound, tenths", gap: Gap::Tenths(120), ..BOUND },
-    Shape { name: "unbound", bound: false, ..BOUND },
+    UNBOUND,
     Shape { name: "bound, ties", ties: true, gap: NO_GAP, ..BOUND },
     Shape { name: "unbound, ties", bound: false, ties: true, gap: NO_GAP, ..BOUND },
     Shape { name: "bound, floats", by: By::Floats, ..BOUND },
     Shape { name: "bound, ratios", by: By::Ratio, ..BOUND },
-    Shape { name: "bound, rests", rests: true, ..BOUND },
+    RESTED,
     Shape { name: "bound, ties, rests", ties: true, gap: NO_GAP, rests: true, ..BOUND },
 ];
 
+/// The lines on which many budgets are timed.
+const WITH_BUDGETS: [Shape; 3] = [BOUND, UNBOUND, RESTED];
+
 /// Each line of each number of tones, or of as many as it can have.
-fn lines() -> impl Iterator<Item = (usize, Shape)> {
-    TONES.into_iter().flat_map(|tones| SHAPES.map(|shape| (shape.most(tones), shape)))
+fn lines<const N: usize>(shapes: [Shape; N]) -> impl Iterator<Item = (usize, Shape)> {
+    TONES.into_iter().flat_map(move |tones| shapes.map(|shape| (shape.most(tones), shape)))
 }
 
 impl Shape {
@@ -139,19 +150,24 @@ impl Shape {
         (0..line.tones).map(|tone| if full(tone) { limit[tone] } else { 0 }).collect()
     }
 
-    /// The target is half of what most bits carries.
+    /// The target is half of what most bits carries. The budgets are as many as a list may
+    /// have, from one for no bits to one for those, each with as many bits more.
     fn input(self, tones: usize) -> Input {
         let sheet = self.sheet(tones);
         let line = read(&sheet).expect("a valid sheet");
         let mut run = Running::nothing(&line);
-        while run.add() {}
+        let powers = powers(&mut run);
+        let bits = |budget| run.total_bits as usize * budget / (MOST_BUDGETS - 1);
+        let budgets: Vec<u64> = (0..MOST_BUDGETS).map(|budget| powers[bits(budget)]).collect();
         Input {
             start: self.start(&line),
             target: run.total_bits as u32 / 2,
+            list: to_bytes(&budgets),
             table: vec![0; BYTES_A_TONE * tones],
             tidy: vec![0; sheet.len()],
             answer: vec![0; ANSWER_BYTES],
             limits: vec![0; BYTES_A_LIMIT * tones],
+            totals: vec![0; BYTES_OF_TOTALS * MOST_BUDGETS],
             sheet,
         }
     }
@@ -166,32 +182,48 @@ fn time(calls: u32, mut call: impl FnMut() -> u64) -> f64 {
     begin.elapsed().as_secs_f64() / f64::from(calls)
 }
 
-/// Sheet, start, table and answer of a call, each a vector of its own.
+/// Sheet, source, destination and answer of a call, each a vector of its own.
 fn lent(call: Call, input: &Input) -> [Vec<u8>; 4] {
-    let table = call.destination(input).to_vec();
-    [input.sheet.clone(), input.start.clone(), table, input.answer.clone()]
+    let (source, destination) = (call.source(input).to_vec(), call.destination(input).to_vec());
+    [input.sheet.clone(), source, destination, input.answer.clone()]
 }
 
 fn buffers(lent: &mut [Vec<u8>; 4]) -> [Buffer; 4] {
     lent.each_mut().map(|bytes| (bytes.as_mut_ptr(), bytes.len()))
 }
 
+/// How many calls a round has, by the time of one.
+fn calls_a_round(time: f64) -> u32 {
+    (ROUND.as_secs_f64() / time.max(1e-8)).clamp(1.0, 20_000.0) as u32
+}
+
+/// Our call on buffers that are lent to it.
+///
+/// # Safety
+/// The buffers must be distinct and as long as they say, whenever it is called.
+unsafe fn our(call: Call, buffers: [Buffer; 4], target: u32) -> impl Fn() -> u64 + Copy {
+    move || {
+        let [sheet, source, destination, answer] = black_box(buffers);
+        unsafe { call.ours(sheet, source, black_box(target), destination, answer) }
+    }
+}
+
+fn assert_same(call: Call, input: &Input) {
+    assert_eq!(calls::ours(call, input).as_ref(), Ok(&calls::papers(call, input)));
+}
+
 /// The best time of a call, ours and the paper's, in microseconds.
 fn best(call: Call, input: &Input) -> (f64, f64) {
-    assert_eq!(calls::ours(call, input).as_ref(), Ok(&calls::papers(call, input)));
+    assert_same(call, input);
     let mut lent = lent(call, input);
-    let buffers = buffers(&mut lent);
-    let ours = || {
-        let [sheet, start, table, answer] = black_box(buffers);
-        // SAFETY: four vectors, each with its own length.
-        unsafe { call.ours(sheet, start, black_box(input.target), table, answer) }
-    };
+    // SAFETY: four vectors, each with its own length.
+    let ours = unsafe { our(call, buffers(&mut lent), input.target) };
     let (mut table, mut answer) = (call.destination(input).to_vec(), input.answer.clone());
     let mut papers = || {
-        let (sheet, start) = (black_box(&input.sheet), black_box(&input.start));
-        call.papers(sheet, start, black_box(input.target), &mut table, &mut answer)
+        let (sheet, source) = (black_box(&input.sheet), black_box(call.source(input)));
+        call.papers(sheet, source, black_box(input.target), &mut table, &mut answer)
     };
-    let calls = (ROUND.as_secs_f64() / time(1, ours).max(1e-8)).clamp(1.0, 20_000.0) as u32;
+    let calls = calls_a_round(time(1, ours));
     let (mut our_best, mut papers_best) = (f64::MAX, f64::MAX);
     for _ in 0..ROUNDS {
         our_best = our_best.min(time(calls, ours));
@@ -230,13 +262,53 @@ fn parts_of_the_limits(tones: usize) -> String {
     format!("{tones:>5}{read:>10.3}{limits:>10.3}{all:>10.3}\n")
 }
 
+/// The best times of some calls, made by turns, in microseconds.
+fn best_by_turns<const N: usize>(mut calls: [&mut dyn FnMut() -> u64; N]) -> [f64; N] {
+    let rounds = calls.each_mut().map(|call| calls_a_round(time(1, call)));
+    let mut best = [f64::MAX; N];
+    for _ in 0..ROUNDS {
+        for (i, call) in calls.iter_mut().enumerate() {
+            best[i] = best[i].min(time(rounds[i], call));
+        }
+    }
+    best.map(|time| time * 1e6)
+}
+
+/// Our call for many budgets; beside it the paper's loading for each, its one pass for
+/// all, and our loading for most bits at the largest of them, each with the ratio of our
+/// call to it.
+fn row_of_budgets(tones: usize, shape: Shape) -> String {
+    let input = shape.input(tones);
+    let largest = number(&input.list[input.list.len() - BYTES_A_BUDGET..]);
+    let single = Input { sheet: with_budget(&input.sheet, largest), ..input.clone() };
+    assert_same(Call::Budgets, &input);
+    assert_same(Call::LoadMost, &single);
+    let mut lent = [lent(Call::Budgets, &input), lent(Call::LoadMost, &single)];
+    let [many, one] = lent.each_mut().map(buffers);
+    // SAFETY: four vectors for each of the two, each with its own length.
+    let (mut ours, mut loading, stack) = unsafe {
+        let stack = stack::used(Call::Budgets, many, 0);
+        (our(Call::Budgets, many, 0), our(Call::LoadMost, one, 0), stack)
+    };
+    let Input { sheet, list, totals, answer, .. } = &input;
+    let [mut first, mut second] = [totals.clone(), totals.clone()];
+    let mut each = || one_by_one(black_box(sheet), black_box(list), &mut first, answer);
+    let mut pass = || in_one_pass(black_box(sheet), black_box(list), &mut second, answer);
+    let times = best_by_turns([&mut ours, &mut each, &mut pass, &mut loading]);
+    let [each, pass, loading] =
+        [1, 2, 3].map(|i| format!("{:>12.3}{:>8.2}", times[i], times[0] / times[i]));
+    let ours = times[0];
+    format!("{tones:>5} {:<20}{ours:>10.3}{each}{pass}{loading}{stack:>8}\n", shape.name)
+}
+
 /// One row for each line and call; times in microseconds, stack in bytes.
 pub fn table() -> String {
     let mut table =
         "tones line                call          ours us  paper us   ratio   stack\n".to_string();
-    for (tones, shape) in lines() {
+    for (tones, shape) in lines(SHAPES) {
         let input = shape.input(tones);
-        for call in Call::ALL {
+        // Many budgets have rows of their own.
+        for call in Call::ALL.into_iter().filter(|call| *call != Call::Budgets) {
             table += &format!("{tones:>5} {:<20}{}\n", shape.name, row(call, &input));
         }
     }
@@ -250,6 +322,14 @@ pub fn table() -> String {
     for tones in TONES {
         table += &parts_of_the_limits(tones);
     }
+    table +=
+        "\nours us of 32 budgets, the paper's one by one and in one pass, and our loading at the ";
+    table += "largest; ratios of ours to each\n";
+    table += "tones line                   ours us  one by one   ratio    one pass   ratio";
+    table += " our loading   ratio   stack\n";
+    for (tones, shape) in lines(WITH_BUDGETS) {
+        table += &row_of_budgets(tones, shape);
+    }
     table
 }
 
@@ -257,7 +337,7 @@ pub fn table() -> String {
 /// states.
 pub fn stack(most: u64) -> Result<String, String> {
     let mut largest = 0;
-    for (tones, shape) in lines() {
+    for (tones, shape) in lines(SHAPES) {
         let input = shape.input(tones);
         for call in Call::ALL.into_iter().filter(|call| call.is_of_host()) {
             let mut lent = lent(call, &input);

@@ -8,7 +8,7 @@ use crate::paper::BYTES_A_TONE;
 /// Longer re-fits are not walked.
 const MOST_WALKED: u64 = 32;
 
-fn number(bytes: &[u8]) -> u64 {
+pub fn number(bytes: &[u8]) -> u64 {
     bytes.iter().fold(0, |number, byte| number << 8 | u64::from(*byte))
 }
 

@@ -138,6 +138,13 @@ impl Running {
         }
     }
 
+    /// The adding run to its end. It is compiled once, so that both ways to many budgets
+    /// take as long for a move.
+    #[inline(never)]
+    pub fn add_all(&mut self) {
+        while self.add() {}
+    }
+
     /// A step of the re-fit: whether it moved.
     pub fn refit_step(&mut self) -> bool {
         match (self.latest_held(), self.earliest_free()) {

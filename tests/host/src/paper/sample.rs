@@ -621,10 +621,12 @@ fn places_of_rests() {
 #[test]
 fn rests_over_the_budget() {
     use crate::calls::Call;
+    // The first budget of the list is the sheet's, at its bytes 7 to 14.
     let every = |sheet: &[u8], start: &[u8], room: usize| {
         Call::ALL.map(|call| {
             let (mut written, mut answer) = (vec![238; room], vec![238; room.min(24)]);
-            let returned = call.papers(sheet, start, u32::MAX, &mut written, &mut answer);
+            let source = if call == Call::Budgets { &sheet[7..15] } else { start };
+            let returned = call.papers(sheet, source, u32::MAX, &mut written, &mut answer);
             assert!(returned == 0 || written.iter().chain(&answer).all(|byte| *byte == 238));
             returned
         })
@@ -633,13 +635,13 @@ fn rests_over_the_budget() {
     // A good start; one of a wrong length; one above the limit of tone 1.
     for start in [&[0, 2, 3][..], &[0, 2], &[0, 3, 0]] {
         for room in [0, 23, 100] {
-            assert_eq!(every(&over, start, room), [16 << 32; 7]);
+            assert_eq!(every(&over, start, room), [16 << 32; 8]);
         }
     }
-    assert_eq!(every(&[&over[..], &[7]].concat(), &[], 0), [7 << 32 | over.len() as u64; 7]);
+    assert_eq!(every(&[&over[..], &[7]].concat(), &[], 0), [7 << 32 | over.len() as u64; 8]);
     let at_end = and(2, &[rest(0, 2), rest(1, 1), rest(2, 1)]);
-    assert_eq!(every(&at_end, &[], 0), [15 << 32 | 74; 7]);
-    assert_eq!(every(&rested(3), &[0; 3], 0), [8 << 32; 7]);
+    assert_eq!(every(&at_end, &[], 0), [15 << 32 | 74; 8]);
+    assert_eq!(every(&rested(3), &[0; 3], 0), [8 << 32; 8]);
     assert_eq!(printed(&over), "refused 16 0\n");
     let due = "0 0 2 mask\n1 0 1 cap\n2 0 0 mask\ntotal 0 3\n";
     assert_eq!(printed(&rested(3)), due);
