@@ -55,9 +55,9 @@ extern "C" {
 #endif
 
 /* The version of the calls and of this header. */
-#define TOQHAYMI_VERSION "1.4.0"
+#define TOQHAYMI_VERSION "1.5.0"
 #define TOQHAYMI_VERSION_MAJOR 1
-#define TOQHAYMI_VERSION_MINOR 4
+#define TOQHAYMI_VERSION_MINOR 5
 #define TOQHAYMI_VERSION_PATCH 0
 
 /* The most stack that a call takes, in bytes. */
