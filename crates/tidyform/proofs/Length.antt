@@ -9,9 +9,10 @@ use lib.Bits.{bitOr}
 use lib.ListN.{length, getD, set, length-append}
 use lib.Seq.{getD-set-same, getD-set-other, set-out}
 use Rattle.sizes.specs.Sizes.{wordsOf, sizeCommand, gapCommand, tenthsCommand, budgetCommand, silenceCommand, restCommand, endCommand}
+use Rattle.lists.specs.Joined.{joinedBelow}
+use Rattle.lists.proofs.Joined.{joined-same, length-none, length-next}
 use Rattle.lists.proofs.Stores.{all-same}
 use Rattle.bigendian.proofs.Numbers.{length-bytes}
-use Rattle.lists.proofs.Joined.{length-none, length-next}
 use Rattle.gaps.specs.declared.Gap.{Gap}
 use Rattle.gaps.specs.declared.Gap.the-variants.{Parts, Tenths}
 use Rattle.line.specs.Line.{Entry, undescribed, described, withRest, Line, entryOf}
@@ -21,83 +22,54 @@ use Rattle.sheet.specs.Reading.{headerOf, bareLine, withEntry, effect}
 use Rattle.tidyform.specs.Tidy.{entryBytes, toneBytes, wordBytes, mapBytes, gapBytes, headBytes, tidy}
 use Rattle.tidyform.proofs.Parts.{length-rest-le, length-entry, length-word-le}
 
--- ---- what the first entries of a list add up to, where each counts by its number and value
+-- ---- parts that the first entries of a list give, each by its number and its value
 
-record Adding (A : Type 0) : Type 0 where
-  absent : A
-  one : ℕ → A → ℕ
-  all : ℕ → List A → ℕ
-  none : (l : List A) → all 0 l ≡ 0
-  more : (n : ℕ) (l : List A) → all (suc n) l ≡ all n l + one n (getD l n absent)
+module _ {A : Type 0} (absent : A) (part : ℕ → A → List ℕ) where
+  abbrev partAt : List A → ℕ → List ℕ
+  partAt l i = part i (getD l i absent)
 
-module _ {A : Type 0} (S : Adding A) where
-  all-zero : (n : ℕ) (l : List A) → ((i : ℕ) → S .one i (getD l i (S .absent)) ≡ 0) → S .all n l ≡ 0
-  all-zero zero l h = S .none l
-  all-zero (suc n) l h = omega (arith, S .more n l, all-zero n l h, h n)
+  abbrev total : ℕ → List A → ℕ
+  total n l = length (joinedBelow (partAt l) n)
+
+  total-zero : (n : ℕ) (l : List A) → ((i : ℕ) → length (partAt l i) ≡ 0) → total n l ≡ 0
+  total-zero zero l h = length-none (partAt l)
+  total-zero (suc n) l h = omega (arith, length-next (partAt l) n, total-zero n l h, h n)
 
   -- an entry that comes later does not matter
-  set-after : (n : ℕ) (l : List A) (i : ℕ) (v : A) → n ≤ i → S .all n (set l i v) ≡ S .all n l
-  set-after zero l i v h = omega (arith, S .none l, S .none (set l i v))
-  set-after (suc n) l i v h =
-      omega (
-        arith,
-        S .more n l,
-        S .more n (set l i v),
-        set-after n l i v (omega arith),
-        ap (S .one n) (getD-set-other l i n v (S .absent) (λ e. omega arith)),
-      )
+  set-after : (n : ℕ) (l : List A) (i : ℕ) (v : A) → n ≤ i → total n (set l i v) ≡ total n l
+  set-after n l i v h = ap length (joined-same (partAt (set l i v)) (partAt l) n (λ k m. ap (part k) (getD-set-other l i k v absent (λ e. omega arith))))
 
-  -- an entry that another replaces adds at most what that one counts more; past the end nothing changes
-  set-adds : (n : ℕ) (l : List A) (i : ℕ) (v : A) (k : ℕ) → S .one i v ≤ S .one i (getD l i (S .absent)) + k → S .all n (set l i v) ≤ S .all n l + k
+  -- an entry that another replaces adds at most what that one's part is longer; past the end nothing changes
+  set-adds : (n : ℕ) (l : List A) (i : ℕ) (v : A) (k : ℕ) → length (part i v) ≤ length (partAt l i) + k → total n (set l i v) ≤ total n l + k
   set-adds n l i v k adds = by (decLe (length l) i)
     where
-      inside : i < length l → (n : ℕ) → S .all n (set l i v) ≤ S .all n l + k
-      inside h zero = omega (arith, S .none (set l i v))
+      inside : i < length l → (n : ℕ) → total n (set l i v) ≤ total n l + k
+      inside h zero = omega (arith, length-none (partAt (set l i v)))
       inside h (suc n) = by-dec (ℕ-discrete n i) (inside h n)
         where
-          by-dec : Dec (n ≡ i) → S .all n (set l i v) ≤ S .all n l + k → S .all (suc n) (set l i v) ≤ S .all (suc n) l + k
+          by-dec : Dec (n ≡ i) → total n (set l i v) ≤ total n l + k → total (suc n) (set l i v) ≤ total (suc n) l + k
           by-dec (yes e) ih =
-              let here : S .one n (getD (set l i v) n (S .absent)) ≡ S .one i v = rw e (ap (S .one i) (getD-set-same l i v (S .absent) h)) in
-              let old : S .one n (getD l n (S .absent)) ≡ S .one i (getD l i (S .absent)) = rw e in
-              omega (arith, S .more n l, S .more n (set l i v), set-after n l i v (omega arith))
-          by-dec (no m) ih = omega (arith, S .more n l, S .more n (set l i v), ap (S .one n) (getD-set-other l i n v (S .absent) m))
+              let here : length (partAt (set l i v) n) ≡ length (part i v) = rw e (ap (λ (x : A). length (part i x)) (getD-set-same l i v absent h)) in
+              let old : length (partAt l n) ≡ length (partAt l i) = rw e in
+              omega (arith, length-next (partAt l) n, length-next (partAt (set l i v)) n, set-after n l i v (omega arith))
+          by-dec (no m) ih =
+              omega (
+                arith,
+                length-next (partAt l) n,
+                length-next (partAt (set l i v)) n,
+                ap (λ (x : A). length (part n x)) (getD-set-other l i n v absent m),
+              )
 
-      by : Dec (length l ≤ i) → S .all n (set l i v) ≤ S .all n l + k
+      by : Dec (length l ≤ i) → total n (set l i v) ≤ total n l + k
       by (yes h) = rw (set-out l i v h) (omega arith)
       by (no h) = inside (omega arith) n
 
--- ---- the tones
-
-abbrev toneLength : ℕ → Entry → ℕ
-toneLength i e = length (entryBytes i e)
-
-abbrev tones : Adding Entry
-tones = record {
-  absent = undescribed;
-  one = toneLength;
-  all = λ n es. length (toneBytes n es);
-  none = λ es. length-none _;
-  more = λ n es. length-next _ n;
-}
+-- ---- a tone
 
 -- a rest adds at most its command to its tone, whatever rest the tone had
 pub rest-adds : (i r : ℕ) (e : Entry) → length (entryBytes i (withRest r e)) ≤ length (entryBytes i e) + restCommand
 rest-adds i r undescribed = omega arith
 rest-adds i r (described t q) = omega (arith, length-entry i t r, length-entry i t q, length-rest-le i r)
-
--- ---- the maps
-
-abbrev mapLength : ℕ → ℕ → ℕ
-mapLength i m = length (wordBytes i m)
-
-abbrev maps : Adding ℕ
-maps = record {
-  absent = 0;
-  one = mapLength;
-  all = λ n ms. length (mapBytes n ms);
-  none = λ ms. length-none _;
-  more = λ n ms. length-next _ n;
-}
 
 -- ---- the tidy form
 
@@ -130,14 +102,14 @@ tidy-bare h =
     omega (
       arith,
       length-tidy (bareLine h),
-      all-zero tones (h .size) (bareLine h .entries) (λ i. ap (toneLength i) (all-same (h .size) i undescribed)),
-      all-zero maps words (bareLine h .maps) (λ i. ap (mapLength i) (all-same words i 0)),
+      total-zero undescribed entryBytes (h .size) (bareLine h .entries) (λ i. ap (λ (e : Entry). length (entryBytes i e)) (all-same (h .size) i undescribed)),
+      total-zero 0 wordBytes words (bareLine h .maps) (λ i. ap (λ (m : ℕ). length (wordBytes i m)) (all-same words i 0)),
     )
 
 -- a tone with another entry
 pub tidy-entry : (l : Line) (i : ℕ) (e : Entry) (k : ℕ) → length (entryBytes i e) ≤ length (entryBytes i (entryOf l i)) + k
     → length (tidy (withEntry l i e)) ≤ length (tidy l) + k
-tidy-entry l i e k adds = omega (arith, length-tidy l, length-tidy (withEntry l i e), set-adds tones (l .size) (l .entries) i e k adds)
+tidy-entry l i e k adds = omega (arith, length-tidy l, length-tidy (withEntry l i e), set-adds undescribed entryBytes (l .size) (l .entries) i e k adds)
 
 pub tidy-silence : (l : Line) (s : List ℕ) (at word map : ℕ) → length (tidy (effect (Silence word map) s at l)) ≤ length (tidy l) + silenceCommand
 tidy-silence l s at word map =
@@ -146,5 +118,5 @@ tidy-silence l s at word map =
       arith,
       length-tidy l,
       length-tidy (effect (Silence word map) s at l),
-      set-adds maps (wordsOf (l .size)) (l .maps) word both silenceCommand (omega (arith, length-word-le word both)),
+      set-adds 0 wordBytes (wordsOf (l .size)) (l .maps) word both silenceCommand (omega (arith, length-word-le word both)),
     )
