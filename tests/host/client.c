@@ -1,6 +1,6 @@
 /*
  * A client in C: the sample line of document 01 by all six calls, a gap in tenths of
- * a decibel, tones that a line analyser read, tones with a rest, and refusals.
+ * a decibel, tones that a line analyser read, tones with a rest, a full line, and refusals.
  */
 #include "toqhaymi.h"
 
@@ -546,6 +546,218 @@ static void refusals(void)
                    TOQHAYMI_START_ABOVE_LIMIT, 1);
 }
 
+/*
+ * A full line: each tone costs 3, carries up to 2 bits and rests at 1, so that its steps are 2
+ * and 6. The last tone is silenced. The budget carries a bit on each other tone and a second on
+ * tones 0 to 255: on the next the step is as large, but not left.
+ */
+#define LAST (TOQHAYMI_MOST_TONES - 1)
+#define SHORT_TONES 256
+#define FULL_BUDGET (3 * LAST + 6 * SHORT_TONES + 5)
+#define SHORT_BYTES 15
+#define FULL_BYTES \
+    (22 + TOQHAYMI_MOST_TONES * (SHORT_BYTES + REST_BYTES) + \
+     2 * (TOQHAYMI_MOST_TONES - SHORT_TONES))
+
+static uint8_t full_sheet[TOQHAYMI_LARGEST_SHEET + 1];
+static uint8_t full_tidy[TOQHAYMI_LARGEST_TIDY + 4];
+static uint8_t full_table[TOQHAYMI_LARGEST_TABLE + 4];
+static uint8_t full_start[TOQHAYMI_MOST_TONES];
+
+/* The command's byte and tone, by a twin or not: their length. */
+static size_t put_tone(uint8_t *bytes, uint8_t command, int twin, int tone)
+{
+    size_t length = 0;
+
+    bytes[length++] = (uint8_t)(command + (twin ? 0x10 : 0));
+    if (twin)
+        bytes[length++] = (uint8_t)(tone >> 8);
+    bytes[length++] = (uint8_t)(tone & 0xff);
+    return length;
+}
+
+/* A tone of the full line and its rest, which has the short command where it can: their length. */
+static size_t put_tone_and_rest(uint8_t *bytes, int twin, int tone)
+{
+    static const uint8_t operands[] = {0, 3, 0, 1, 2, 0, 0, 0, 0, 0, 0, 0, 100};
+    static const uint8_t rest[] = {0, 0, 0, 1};
+    size_t length = put_tone(bytes, 0x04, twin, tone);
+
+    memcpy(bytes + length, operands, sizeof operands);
+    length += sizeof operands;
+    length += put_tone(bytes + length, 0x0b, tone >= SHORT_TONES, tone);
+    memcpy(bytes + length, rest, sizeof rest);
+    return length + sizeof rest;
+}
+
+/* What a sheet of the full line begins with. */
+static size_t put_first(uint8_t *bytes)
+{
+    static const uint8_t first[] = {
+        0x01, TOQHAYMI_MOST_TONES >> 8, TOQHAYMI_MOST_TONES & 0xff, 0x02, 1, 0,
+        0x03, 0, 0, 0, 0, 0, 0, FULL_BUDGET >> 8, FULL_BUDGET & 0xff
+    };
+
+    memcpy(bytes, first, sizeof first);
+    return sizeof first;
+}
+
+/* The silence of the last tone. */
+static const uint8_t silence_last[] = {0x06, LAST / 32, 0x80, 0, 0, 0};
+
+/* The full line as a tidy sheet: its length. */
+static size_t put_full(uint8_t *bytes)
+{
+    size_t length = put_first(bytes);
+    int t;
+
+    for (t = 0; t <= LAST; t++)
+        length += put_tone_and_rest(bytes + length, t >= SHORT_TONES, t);
+    memcpy(bytes + length, silence_last, sizeof silence_last);
+    length += sizeof silence_last;
+    bytes[length++] = 0x07;
+    return length;
+}
+
+/* The same line in falling order, each tone by a twin, with silences up to the longest sheet. */
+static size_t put_untidy(uint8_t *bytes)
+{
+    static const uint8_t empty[] = {0x06, LAST / 32, 0, 0, 0, 0};
+    size_t length = put_first(bytes);
+    int t;
+
+    memcpy(bytes + length, silence_last, sizeof silence_last);
+    length += sizeof silence_last;
+    for (t = LAST; t >= 0; t--)
+        length += put_tone_and_rest(bytes + length, 1, t);
+    while (length + sizeof empty < TOQHAYMI_LARGEST_SHEET) {
+        memcpy(bytes + length, empty, sizeof empty);
+        length += sizeof empty;
+    }
+    bytes[length++] = 0x07;
+    return length;
+}
+
+static void lend_full(void)
+{
+    memset(full_table, UNTOUCHED, sizeof full_table);
+    memset(full_tidy, UNTOUCHED, sizeof full_tidy);
+    memset(answer, UNTOUCHED, sizeof answer);
+}
+
+/* Tones below the first number have 2 bits, those below the second 1, and the others none. */
+static void expect_full_table(int with_2, int with_1)
+{
+    static const uint64_t powers[] = {1, 3, 9};
+    int t;
+
+    for (t = 0; t <= LAST; t++) {
+        const uint8_t *tone = full_table + TOQHAYMI_BYTES_A_TONE * t;
+        int bits = t == LAST ? 0 : t < with_2 ? 2 : t < with_1 ? 1 : 0;
+        expect("bits of the full line", tone[0], (uint64_t)bits);
+        expect("power of the full line", TOQHAYMI_VALUE(tone + 1), t == LAST ? 0 : powers[bits]);
+    }
+    expect_untouched("a byte after the full table", full_table, TOQHAYMI_LARGEST_TABLE,
+                     sizeof full_table);
+}
+
+static void full_loads(const uint8_t *bytes, size_t length)
+{
+    static const uint64_t counts[] = {TOQHAYMI_MOST_TONES, TOQHAYMI_MOST_TONES, 1};
+    static const uint64_t most[] = {LAST + SHORT_TONES, FULL_BUDGET - 5};
+    static const uint64_t of_300[] = {300, 300 * 3 + LAST - 300};
+
+    lend_full();
+    expect_answers("check", toqhaymi_check(bytes, length, answer, sizeof answer), 3, counts);
+    lend_full();
+    expect_answers("load_most",
+                   toqhaymi_load_most(bytes, length, full_table, sizeof full_table,
+                                      answer, sizeof answer), 2, most);
+    expect_full_table(SHORT_TONES, LAST);
+    lend_full();
+    expect_answers("load_target",
+                   toqhaymi_load_target(bytes, length, 300, full_table, sizeof full_table,
+                                        answer, sizeof answer), 2, of_300);
+    expect_full_table(0, 300);
+    lend_full();
+    expect("a target that the full line does not carry",
+           toqhaymi_load_target(bytes, length, LAST + SHORT_TONES + 1,
+                                full_table, sizeof full_table, answer, sizeof answer),
+           (uint64_t)TOQHAYMI_TARGET_NOT_CARRIED << 32);
+    expect_untouched("a byte of the refused table", full_table, 0, sizeof full_table);
+}
+
+/* From second bits on tones 1 to 256: tone 0's comes before that of tone 256. */
+static void full_refit(const uint8_t *bytes, size_t length)
+{
+    static const uint64_t one_move[] = {LAST + SHORT_TONES, FULL_BUDGET - 5, 1};
+    static const uint64_t moves[] = {LAST + SHORT_TONES, FULL_BUDGET - 5, 100};
+    int t;
+
+    for (t = 0; t <= LAST; t++)
+        full_start[t] = t == LAST ? 0 : t > 0 && t <= SHORT_TONES ? 2 : 1;
+    lend_full();
+    expect_answers("refit_step",
+                   toqhaymi_refit_step(bytes, length, full_start, sizeof full_start,
+                                       full_table, sizeof full_table, answer, sizeof answer),
+                   3, one_move);
+    expect_full_table(SHORT_TONES, LAST);
+    for (t = 0; t < LAST; t++)
+        full_start[t] = t >= 100 && t < SHORT_TONES + 100 ? 2 : 1;
+    lend_full();
+    expect_answers("refit",
+                   toqhaymi_refit(bytes, length, full_start, sizeof full_start,
+                                  full_table, sizeof full_table, answer, sizeof answer),
+                   3, moves);
+    expect_full_table(SHORT_TONES, LAST);
+}
+
+static void full_line(void)
+{
+    static const uint64_t due[] = {FULL_BYTES};
+    static uint8_t tidy_sheet[TOQHAYMI_LARGEST_SHEET];
+    size_t tidy_length = put_full(tidy_sheet), length = put_untidy(full_sheet);
+
+    expect("the tidy length", tidy_length, FULL_BYTES);
+    expect("the untidy length", length, TOQHAYMI_LARGEST_SHEET);
+    expect("the largest table", TOQHAYMI_LARGEST_TABLE, TOQHAYMI_TABLE_BYTES(TOQHAYMI_MOST_TONES));
+    full_loads(tidy_sheet, tidy_length);
+    full_loads(full_sheet, length);
+    full_refit(full_sheet, length);
+    lend_full();
+    expect_answers("tidy",
+                   toqhaymi_tidy(full_sheet, length, full_tidy, sizeof full_tidy,
+                                 answer, sizeof answer), 1, due);
+    expect("the tidy sheet's difference", memcmp(full_tidy, tidy_sheet, tidy_length) != 0, 0);
+    expect_untouched("a byte after the tidy sheet", full_tidy, tidy_length, sizeof full_tidy);
+    full_sheet[length] = 0x07;
+    lend();
+    expect_refusal("check", toqhaymi_check(full_sheet, length + 1, answer, sizeof answer),
+                   TOQHAYMI_SHEET_TOO_LONG, 0);
+}
+
+/* A twin of tone 0 and one of a tone that is not on the line, after the sample; and cut. */
+static void refused_twins(void)
+{
+    static const uint8_t again[] = {0x14, 0, 0, 0, 3, 0, 1, 15, 0, 0, 0, 0, 0, 0, 0, 100};
+    static const uint8_t not_on_line[] = {0x1b, 1, 0, 0, 0, 0, 1};
+    uint8_t bytes[LONGEST];
+    size_t length = with_commands(bytes, 39, again, sizeof again);
+
+    lend();
+    expect_refusal("check", toqhaymi_check(bytes, length, answer, sizeof answer),
+                   TOQHAYMI_TONE_REPEATED, 61);
+    expect_refusal("check", toqhaymi_check(bytes, 62, answer, sizeof answer),
+                   TOQHAYMI_SHEET_ENDS_EARLY, 62);
+    length = with_commands(bytes, 39, not_on_line, sizeof not_on_line);
+    expect_refusal("check", toqhaymi_check(bytes, length, answer, sizeof answer),
+                   TOQHAYMI_TONE_NOT_ON_LINE, 61);
+    bytes[1] = (TOQHAYMI_MOST_TONES + 1) >> 8;
+    bytes[2] = (TOQHAYMI_MOST_TONES + 1) & 0xff;
+    expect_refusal("check", toqhaymi_check(bytes, length, answer, sizeof answer),
+                   TOQHAYMI_OPERAND_OUT_OF_RANGE, 1);
+}
+
 int main(void)
 {
     check_and_load();
@@ -562,6 +774,8 @@ int main(void)
     refused_rests();
     rests_and_masks();
     rests_before_tones();
+    full_line();
+    refused_twins();
     refusals();
     printf(wrong ? "some answers are wrong\n" : "all answers are right\n");
     return wrong;

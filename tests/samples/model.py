@@ -1,7 +1,7 @@
 #!/usr/bin/env python3
-"""A model of document 01 and of document 02's requests W1, W3, W5, W6 and W7, written from the papers and the readings of
-docs/DECISIONS.md: reading a sheet with its refusals, check, tidy, the limits, the loadings, the re-fit and the totals at many
-budgets. Plain and slow; floats are worked out in whole numbers and fractions.
+"""A model of document 01 and of document 02's requests W1, W3 and W5 to W8, written from the papers and the readings of docs/DECISIONS.md:
+reading a sheet with its refusals, check, tidy, the limits, the loadings, the re-fit and the totals at many budgets. Plain and slow;
+floats are worked out in whole numbers and fractions.
 
   model.py < stdin > stdout      what the test program prints for a text of calls
   model.py --selftest            the paper's own statements
@@ -19,31 +19,45 @@ def number(data):
     return int.from_bytes(data, "big")
 
 
-# "Operands": for each command the widths, in order.
+# "Size may be up to 1,024, and a silence word up to 31"; "A sheet may be 32,768 bytes".
+MOST_TONES, LAST_WORD, LONGEST = 1024, 31, 32768
+
+# "Operands": the widths, in order, and for a command with a tone number those behind it.
+AFTER_TONE = {
+    0x04: [("noise", 2), ("gain", 2), ("cap", 1), ("mask", 8)],
+    0x05: [("noise", 2), ("gain", 2), ("cap", 1), ("mask", 8)],
+    0x09: [("noise float", 4), ("gain float", 4), ("cap", 1), ("mask", 8)],
+    0x0a: [("ratio float", 4), ("cap", 1), ("mask", 8)],
+    0x0b: [("rest", 4)],
+}
+
+
+def of_width(command, width):
+    """The command with a tone number of so many bytes: "a twin, 10 (hex) higher, with a two-byte tone number"."""
+    return command + 0x10 * (width - 1)
+
+
+# Each command with a tone number as (its one-byte form, the width of that number), and "its other operands alike".
+TONED = {of_width(command, width): (command, width) for command in AFTER_TONE for width in (1, 2)}
 OPERANDS = {
     0x01: [("size", 2)],
     0x02: [("gap", 2)],
     0x03: [("budget", 8)],
-    0x04: [("tone", 1), ("noise", 2), ("gain", 2), ("cap", 1), ("mask", 8)],
-    0x05: [("tone", 1), ("noise", 2), ("gain", 2), ("cap", 1), ("mask", 8)],
     0x06: [("word", 1), ("map", 4)],
     0x07: [],
     0x08: [("tenths", 1)],
-    0x09: [("tone", 1), ("noise float", 4), ("gain float", 4), ("cap", 1), ("mask", 8)],
-    0x0a: [("tone", 1), ("ratio float", 4), ("cap", 1), ("mask", 8)],
-    0x0b: [("tone", 1), ("rest", 4)],
+    **{command: [("tone", width), *AFTER_TONE[short]] for command, (short, width) in TONED.items()},
 }
 
-# "N tones, 1 to 256", "256 to 65,535", "0 to 2^47", "1 to 65,535", "word 1 (0 to 7)", "one operand byte d from 0 to
-# 240"; the cap goes by kind.
+# "256 to 65,535", "0 to 2^47", "1 to 65,535", "one operand byte d from 0 to 240"; the cap goes by kind.
 RANGES = {
-    "size": (1, 256),
+    "size": (1, MOST_TONES),
     "gap": (256, 65535),
     "budget": (0, 2**47),
     "noise": (1, 65535),
     "gain": (1, 65535),
     "mask": (0, 2**47),
-    "word": (0, 7),
+    "word": (0, LAST_WORD),
     "tenths": (0, 240),
 }
 # "Such a tone", of 09 or 0A, "is a pair tone to all the loadings".
@@ -121,10 +135,10 @@ class Line:
 
 def allowed(commands_read):
     """01, 02, 03 come first, each once, in that order, and 08 "may stand where 02 stands"; then any number of 04, 05, 06, of 09 and
-    0A, which describe a tone too, and of 0B; then 07."""
+    0A, which describe a tone too, of 0B, and of twins; then 07."""
     if commands_read < 3:
         return [{0x01}, {0x02, 0x08}, {0x03}][commands_read]
-    return {0x04, 0x05, 0x06, 0x07, 0x09, 0x0a, 0x0b}
+    return {0x06, 0x07, *TONED}
 
 
 def cost_of(line, tone):
@@ -207,8 +221,8 @@ def act(line, command, values):
 
 def said(sheet):
     """The line that the bytes of a sheet say; else Refused(number, place), of 1 to 7 and 12 to 15. A 0B is remembered "even of rest
-    0", by the reading alone."""
-    if len(sheet) > 4096:
+    0", by the reading alone. A twin is judged and does as its one-byte form, which is what the line knows."""
+    if len(sheet) > LONGEST:
         raise Refused(1, 0)
     line, had, at, commands = Line(), set(), 0, 0
     while True:
@@ -217,10 +231,12 @@ def said(sheet):
         command = sheet[at]
         if command not in allowed(commands):
             raise Refused(3, at)
-        if at + 1 + sum(w for _, w in OPERANDS[command]) > len(sheet):
+        operands = OPERANDS[command]
+        if at + 1 + sum(w for _, w in operands) > len(sheet):
             raise Refused(2, len(sheet))
+        command, _ = TONED.get(command, (command, 0))
         at, values = at + 1, {}
-        for name, width in OPERANDS[command]:
+        for name, width in operands:
             values[name] = value = number(sheet[at:at + width])
             judge(line, had, command, name, value, values, at)
             at += width
@@ -253,18 +269,24 @@ def check(sheet):
     return line.size, len(line.tones), len(line.silenced)
 
 
+def named(command, tone, width=None):
+    """A command and its tone number, in so many bytes; else as "tidying uses the short command for tones up to 255"."""
+    width = width or (1 if tone <= 255 else 2)
+    return bytes([of_width(command, width)]) + tone.to_bytes(width, "big")
+
+
 def tidy_form(line):
-    """"The tidy form keeps whichever command the sheet had", and each tone its own. "Tidying keeps the float bits", and "puts 0B
-    straight after its tone and drops one whose rest is 0", which the line does not have."""
+    """"The tidy form keeps whichever command the sheet had", and each tone its own, or its twin. "Tidying keeps the float bits", and
+    "puts 0B straight after its tone and drops one whose rest is 0", which the line does not have."""
     out = b"\x01" + line.size.to_bytes(2, "big")
     out += b"\x02" + line.gap.to_bytes(2, "big") if line.tenths is None else bytes([8, line.tenths])
     out += b"\x03" + line.budget.to_bytes(8, "big")
     for tone in sorted(line.tones):
         command, *numbers = line.tones[tone]
-        out += bytes([command, tone]) + b"".join(n.to_bytes(w, "big") for n, (_, w) in zip(numbers, OPERANDS[command][1:]))
+        out += named(command, tone) + b"".join(n.to_bytes(w, "big") for n, (_, w) in zip(numbers, AFTER_TONE[command]))
         if tone in line.rests:
-            out += bytes([0x0b, tone]) + line.rests[tone].to_bytes(4, "big")
-    for word in range(8):
+            out += named(0x0b, tone) + line.rests[tone].to_bytes(4, "big")
+    for word in range(LAST_WORD + 1):
         joined = sum(1 << k for k in range(32) if 32 * word + k in line.silenced)
         if joined:
             out += bytes([6, word]) + joined.to_bytes(4, "big")
@@ -293,6 +315,8 @@ class Loading:
         self.line, self.tones = line, range(line.size)
         self.limits = [self.limit(tone) for tone in self.tones]
         self.powers = [[self.power(tone, b) for b in range(self.limits[tone] + 1)] for tone in self.tones]
+        # The power of b + 1 bits less the power of b, for each b below the limit.
+        self.steps = [[(more - less, tone) for less, more in zip(powers, powers[1:])] for tone, powers in enumerate(self.powers)]
 
     def cost(self, tone):
         return cost_of(self.line, tone)
@@ -321,19 +345,15 @@ class Loading:
         return MASK if one_more <= cap and self.power(tone, one_more) > mask else CAP
 
     def total(self, table):
-        return sum(self.powers[tone][bits] for tone, bits in enumerate(table))
-
-    def step(self, tone, bits):
-        """The power of b + 1 bits less the power of b."""
-        return self.powers[tone][bits + 1] - self.powers[tone][bits], tone
+        return sum(powers[bits] for powers, bits in zip(self.powers, table))
 
     # "Steps of one tone strictly rise", so its first free step is the one at its bits, and its last held step the one below.
 
     def earliest_free(self, table):
-        return min((self.step(tone, table[tone]) for tone in self.tones if table[tone] < self.limits[tone]), default=None)
+        return min((steps[bits] for steps, bits in zip(self.steps, table) if bits < len(steps)), default=None)
 
     def latest_held(self, table):
-        return max((self.step(tone, table[tone] - 1) for tone in self.tones if table[tone] > 0), default=None)
+        return max((steps[bits - 1] for steps, bits in zip(self.steps, table) if bits > 0), default=None)
 
     def fits(self, table, step):
         return self.total(table) + step[0] <= self.line.budget
@@ -392,7 +412,7 @@ def loading_of(sheet):
 
 @functools.lru_cache(maxsize=None)
 def run(word, argument, sheet):
-    """The table that a call ends in, and the moves: the target of a loading, or the start of a re-fit, meets no refusal."""
+    """The table that a call ends in, and the moves: the start of a re-fit meets no refusal, and a target may be above what is carried."""
     loading = loading_of(sheet)
     if word == "most":
         return loading.adding(), None
@@ -404,11 +424,11 @@ def run(word, argument, sheet):
     return loading.refit(argument)
 
 
-def carried(loading, target):
+def carried(loading, target, sheet):
     """Whether a table within limits and budget carries the target. Long lines are answered by the run, which `hold` compares
     with this on the others."""
     if sum(loading.limits) > 400:
-        return sum(loading.adding(target)) == target
+        return sum(run("target", target, sheet)[0]) == target
     return target <= sum(loading.limits) and loading.least_powers()[target] <= loading.line.budget
 
 
@@ -423,7 +443,7 @@ def call(word, argument, sheet, room):
         for tone, bits in enumerate(argument):
             if bits > loading.limits[tone]:
                 raise Refused(10, tone)
-    if word == "target" and not carried(loading, argument):
+    if word == "target" and not carried(loading, argument, sheet):
         raise Refused(11, 0)
     table, moves = run(word, argument, sheet)
     hold(loading, word, argument, table, moves, sheet)
@@ -491,7 +511,9 @@ def hold(loading, word, argument, table, moves, sheet):
 
 # The test program's text format.
 
-ROOM = 4200
+# Above the bytes that a sheet may have, and those of a table.
+ROOM = 32800
+assert ROOM > LONGEST and ROOM > 9 * MOST_TONES
 
 
 def bytes_of(text):
@@ -701,12 +723,11 @@ def loading_selftest():
         line.budget += sum(line.rests.values())
         loading = Loading(line)
         table = [dice.randint(0, limit) for limit in loading.limits]
-        held = [loading.step(t, b) for t in loading.tones for b in range(table[t])]
-        free = [loading.step(t, b) for t in loading.tones for b in range(table[t], loading.limits[t])]
+        held = [loading.steps[t][b] for t in loading.tones for b in range(table[t])]
+        free = [loading.steps[t][b] for t in loading.tones for b in range(table[t], loading.limits[t])]
         assert loading.earliest_free(table) == min(free, default=None) and loading.latest_held(table) == max(held, default=None)
-        for tone in loading.tones:
-            sizes = [loading.step(tone, b) for b in range(loading.limits[tone])]
-            assert all(a < b for a, b in zip(sizes, sizes[1:]))
+        for tone, steps in enumerate(loading.steps):
+            assert len(steps) == loading.limits[tone] and all(a < b for a, b in zip(steps, steps[1:]))
         assert loading.refit(table)[0] == loading.adding() and loading.refit(table)[1] <= sum(loading.limits)
 
 
@@ -802,7 +823,7 @@ def rests_selftest():
     # "The power at no bits becomes the rest, 0 where none is given, and the first step shrinks by it".
     line = loading_of(rested(39))
     assert line.powers == [[2, 3, 9, 21, 45, 93], [1, 5, 15], [0, 3, 15, 63]] and line.limits == [5, 2, 3]
-    assert [line.step(tone, 0)[0] for tone in range(3)] == [1, 4, 3] and line.step(0, 1)[0] == 6
+    assert [steps[0] for steps in line.steps] == [(1, 0), (4, 1), (3, 2)] and line.steps[0][1] == (6, 0)
     # "Tables of no bits, target 0 and every sum include rests".
     most = {3: ([0, 0, 0], 3), 4: ([1, 0, 0], 4), 7: ([1, 0, 1], 7), 11: ([1, 1, 1], 11), 38: ([2, 2, 1], 27), 39: ([3, 2, 1], 39)}
     for budget, (table, power) in most.items():
@@ -881,6 +902,67 @@ def budgets_selftest():
     assert budgets_answer(rested(0), 3, 4, room=24) == [(0, 3), (1, 4)]
 
 
+def twin(command):
+    """The twin of a command's bytes, with the same tone."""
+    return named(command[0], command[1], 2) + command[2:]
+
+
+def commands_of(sheet):
+    """The commands of an accepted sheet, each with its operands."""
+    out, at = [], 0
+    while at < len(sheet):
+        width = 1 + sum(w for _, w in OPERANDS[sheet[at]])
+        out.append(sheet[at:at + width])
+        at += width
+    return out
+
+
+def twinned(sheet):
+    """A sheet of short commands with the twin of each that has one."""
+    return b"".join(twin(c) if c[0] in AFTER_TONE else c for c in commands_of(sheet))
+
+
+def tone_of(command):
+    """The tone of a command's bytes; None of a command without."""
+    if command[0] in TONED:
+        _, width = TONED[command[0]]
+        return number(command[1:1 + width])
+
+
+def twins_selftest():
+    # "a twin, 10 (hex) higher": of the commands with a tone byte, and of no other.
+    assert sorted(TONED) == [4, 5, 9, 10, 11, 0x14, 0x15, 0x19, 0x1a, 0x1b] == sorted({*OPERANDS} - {1, 2, 3, 6, 7, 8})
+    assert all(refusal(SAMPLE[:15] + bytes([byte]) + SAMPLE[15:]) == (3, 15) for byte in range(256) if byte not in (6, 7, *TONED))
+    # A sheet of twins says what the sheet of short commands says, and "tidying uses the short command for tones up to 255".
+    read_off = SAMPLE[:15] + bytes.fromhex("09 00 40400000 3f800000 0f 0000000000000064 0a 01 40a00000 02 0000000000000064") + SAMPLE[45:]
+    for sheet in (SAMPLE, rested(39), read_off):
+        long = twinned(sheet)
+        assert read(long).same(read(sheet)) and tidy(long, len(sheet)) == sheet and check(long) == check(sheet)
+        assert len(long) > len(sheet) and all(refusal(long[:n]) == (2, n) for n in range(len(long)))
+    # Tones 255 and 256 of a line of 1,024, and the sizes round them; high byte first.
+    def at(size, *commands):
+        return b"\x01" + size.to_bytes(2, "big") + SAMPLE[3:15] + b"".join(commands) + b"\x07"
+    pairs = {tone: named(4, tone) + SAMPLE[17:30] for tone in (0, 1, 254, 255, 256, 257, 258, 512, 1023, 1024, 65535)}
+    assert [len(pairs[tone]) for tone in (255, 256)] == [15, 16] and pairs[258][:3] == bytes([0x14, 1, 2])
+    assert tidy(at(1024, pairs[256], twin(pairs[255])), 47) == at(1024, pairs[255], pairs[256])
+    for size, tone in ((256, 255), (257, 256), (1024, 1023)):
+        assert refusal(at(size, pairs[tone])) == (0, 0) and refusal(at(size, named(4, size, 2) + SAMPLE[17:30])) == (5, 16)
+    assert refusal(at(1, pairs[256])) == (5, 16) and refusal(at(1024, pairs[65535])) == (5, 16)
+    assert [refusal(at(size)) for size in (0, 1, 1024, 1025)] == [(4, 1), (0, 0), (0, 0), (4, 1)]
+    # A tone is one tone by either width, at the first byte of its number; a rest by either.
+    for first in (pairs[1], twin(pairs[1])):
+        for second in (pairs[1], twin(pairs[1])):
+            assert refusal(at(2, first, second)) == (6, 16 + len(first))
+        for rest in (named(0x0b, 1), named(0x0b, 1, 2)):
+            assert refusal(at(2, first, rest + bytes(3) + b"\2")) == (0, 0) and refusal(at(2, rest + bytes(4), first)) == (14, 16)
+            assert refusal(at(2, first, rest + bytes(3) + b"\3")) == (15, 15 + len(first + rest))
+            for again in (named(0x0b, 1), named(0x0b, 1, 2)):
+                assert refusal(at(2, first, rest + bytes(4), again + bytes(4))) == (14, 20 + len(first + rest))
+    # "a silence word up to 31".
+    assert [refusal(at(1024, bytes([6, word]) + bytes(4))) for word in (8, 31, 32, 255)] == [(0, 0), (0, 0), (4, 16), (4, 16)]
+    assert read(at(1024, b"\6\x1f\x80\0\0\1")).silenced == {992, 1023} and refusal(at(1023, b"\6\x1f\x80\0\0\0")) == (5, 17)
+
+
 def selftest():
     loading_selftest()
     limits_selftest()
@@ -889,6 +971,7 @@ def selftest():
     readings_selftest()
     rests_selftest()
     budgets_selftest()
+    twins_selftest()
     assert len(SAMPLE) == 61
     # "Gap 256; tone 0 pair, noise 3, cap 15; tone 1 pair, noise 5, cap 2; tone 2 single, noise 1, cap 7; gains 1,
     # masks 100"; "the sample at 39".
@@ -900,13 +983,12 @@ def selftest():
     assert refusal(b"") == (2, 0)
     # "Bytes in all".
     totals = {c: 1 + sum(w for _, w in ops) for c, ops in OPERANDS.items()}
-    assert totals == {1: 3, 2: 3, 3: 9, 4: 15, 5: 15, 6: 6, 7: 1, 8: 2, 9: 19, 10: 15, 11: 6}
+    assert totals == {1: 3, 2: 3, 3: 9, 4: 15, 5: 15, 6: 6, 7: 1, 8: 2, 9: 19, 10: 15, 11: 6, 20: 16, 21: 16, 25: 20, 26: 16, 27: 7}
     # "tidying a tidy sheet returns it": the sample is tidy.
     assert tidy(SAMPLE, 61) == SAMPLE and tidy(SAMPLE, ROOM) == SAMPLE
-    # "at most 4,096 bytes".
-    head, silence = SAMPLE[:15], bytes.fromhex("060000000000")
-    whole = head + silence * 680 + b"\x07"
-    assert len(whole) == 4096 and refusal(whole) == (0, 0) and refusal(whole + b"\x07") == (1, 0)
+    # "A sheet may be 32,768 bytes".
+    whole = SAMPLE[:15] + twin(SAMPLE[15:30]) + bytes.fromhex("060000000000") * 5456 + b"\x07"
+    assert len(whole) == 32768 and refusal(whole) == (0, 0) and refusal(whole + b"\x07") == (1, 0)
     # "the sheet ends where a command or the rest of its operands should stand; place its length".
     assert all(refusal(SAMPLE[:n]) == (2, n) for n in range(61))
     # "Bytes follow the end command; place the first of them".
@@ -915,16 +997,16 @@ def selftest():
     import random
     dice = random.Random(1)
     for _ in range(2000):
-        size = dice.choice([1, 3, 31, 32, 33, 64, 255, 256])
+        size = dice.choice([1, 3, 31, 32, 33, 64, 255, 256, 257, 300, 1023, 1024])
         commands = []
         for tone in dice.sample(range(size), dice.randint(0, min(size, 9))):
             kind = dice.choice([4, 5, 9, 10])
             ends = {2: (1, 65535), 4: (0x3f000000, 0x3fffffff)}
-            levels = [dice.randint(*ends[w]).to_bytes(w, "big") for _, w in OPERANDS[kind][1:-2]]
-            commands.append(bytes([kind, tone]) + b"".join(levels) + bytes([dice.randint(0, CAPS[kind][1])])
+            levels = [dice.randint(*ends[w]).to_bytes(w, "big") for _, w in AFTER_TONE[kind][:-2]]
+            commands.append(named(kind, tone, dice.choice([None, 2])) + b"".join(levels) + bytes([dice.randint(0, CAPS[kind][1])])
                             + dice.randint(0, 2**47).to_bytes(8, "big"))
         for _ in range(dice.randint(0, 6)):
-            word = dice.randint(0, 7)
+            word = dice.choice([dice.randint(0, LAST_WORD), dice.randint(0, (size - 1) // 32)])
             within = max(0, min(32, size - 32 * word))
             commands.append(bytes([6, word]) + (dice.getrandbits(32) & dice.getrandbits(32) & ((1 << within) - 1)).to_bytes(4, "big"))
         dice.shuffle(commands)
@@ -934,14 +1016,16 @@ def selftest():
         # Rests anywhere after their tones; at most 9 of at most 4, which the budget 39 allows.
         rests = {tone: dice.randint(0, min(cost_of(line, tone) - 1, numbers[-1], 4)) for tone, numbers in line.tones.items() if tone % 3}
         for tone, rest in rests.items():
-            own = next(i for i, c in enumerate(commands) if c[0] in CAPS and c[1] == tone)
-            commands.insert(dice.randint(own + 1, len(commands)), bytes([0x0b, tone]) + rest.to_bytes(4, "big"))
+            own = next(i for i, c in enumerate(commands) if tone_of(c) == tone)
+            commands.insert(dice.randint(own + 1, len(commands)), named(0x0b, tone, dice.choice([None, 2])) + rest.to_bytes(4, "big"))
         sheet = start + b"".join(commands) + b"\x07"
         out = tidy(sheet, ROOM)
         assert read(out).rests == {tone: rest for tone, rest in rests.items() if rest > 0}
         assert out[3:].startswith(gap) and len(out) <= len(sheet)
         assert read(out).same(read(sheet)) and tidy(out, len(out)) == out and check(out) == check(sheet)
-        assert set(read(out).tones) == {c[1] for c in commands if c[0] in CAPS}
+        assert set(read(out).tones) == {tone_of(c) for c in commands} - {None}
+        # "the short command for tones up to 255".
+        assert all((c[0] < 0x10) == (tone_of(c) <= 255) for c in commands_of(out) if c[0] in TONED)
 
 
 if __name__ == "__main__":

@@ -33,7 +33,7 @@ def spelled(sheet):
     while at < len(sheet) and len(model.OPERANDS.get(sheet[at], [])) > 0:
         width, times = 1 + sum(w for _, w in model.OPERANDS[sheet[at]]), 1
         word = sheet[at:at + width]
-        while sheet[at + times * width:][:width] == word:
+        while sheet[at + times * width:at + (times + 1) * width] == word:
             times += 1
         if times > 3:
             words.append("(%s)*%d" % (hexed(word, ""), times))
@@ -153,8 +153,12 @@ def head(n=3, b=39):
     return size(n) + gap() + budget(b)
 
 
+# A command of a tone is the short one up to tone 255 and the twin from 256 on. `twin` has that of a lower tone.
+twin, twinned = model.twin, model.twinned
+
+
 def tone(command, number, noise=3, gain=1, cap=5, mask=100):
-    return (bytes([command, number]) + noise.to_bytes(2, "big") + gain.to_bytes(2, "big") + bytes([cap])
+    return (model.named(command, number) + noise.to_bytes(2, "big") + gain.to_bytes(2, "big") + bytes([cap])
             + mask.to_bytes(8, "big"))
 
 
@@ -168,13 +172,13 @@ def single(number, *rest, **named):
 
 def reading(number, *floats, cap=5, mask=100):
     """09 of two floats, noise and gain, or 0A of one, their ratio; each by its bits."""
-    return (bytes([0x09 if len(floats) == 2 else 0x0a, number]) + b"".join(bits.to_bytes(4, "big") for bits in floats) + bytes([cap])
+    return (model.named(0x09 if len(floats) == 2 else 0x0a, number) + b"".join(bits.to_bytes(4, "big") for bits in floats) + bytes([cap])
             + mask.to_bytes(8, "big"))
 
 
 def at_rest(number, power):
     """0B: what a tone sends at no bits."""
-    return bytes([0x0b, number]) + power.to_bytes(4, "big")
+    return model.named(0x0b, number) + power.to_bytes(4, "big")
 
 
 def float_of(value):
@@ -197,13 +201,24 @@ add(model.SAMPLE, (3, 3, 0))
 group("document 01: the empty sheet")
 add(b"", (2, 0))
 
-group("length: 4,096 bytes are read; 4,097 are not, whatever they hold")
+# As many silences as are left of 32,768 bytes beside a pair tone of 16.
+longest = head() + twin(pair(1)) + NOTHING * 5456 + END
+assert len(longest) == model.LONGEST
+TOO_LONG = NOTHING * 5462
+
+group("length: 32,768 bytes are read; 32,769 are not, whatever they hold")
+add(longest, (3, 1, 0))
+add(longest + END, (1, 0))
+add(longest[:-1] + b"\x06", (2, 32768))
+add(b"\xff" * 32768, (3, 0))
+add(b"\xff" * 32769, (1, 0))
+add(b"\x01" * 99999, (1, 0))
+group("length: 4,096 bytes and more")
 add(head() + NOTHING * 680 + END, (3, 0, 0))
-add(head() + NOTHING * 680 + END + END, (1, 0))
+add(head() + NOTHING * 680 + END + END, (7, 4096))
 add(head() + NOTHING * 680 + b"\x06", (2, 4096))
+add(head() + NOTHING * 681 + END, (3, 0, 0))
 add(b"\xff" * 4096, (3, 0))
-add(b"\xff" * 4097, (1, 0))
-add(b"\x01" * 9999, (1, 0))
 
 group("cut: a sheet with each command, cut at every length from 1")
 whole = head() + pair(0, 3, 1, 15, 100) + single(2, 1, 1, 7, 0x123456789abc % TOP) + silence(0, 2) + END
@@ -211,8 +226,9 @@ for n in range(1, len(whole)):
     add(whole[:n], (2, n))
 add(whole, (3, 2, 1))
 
-group("size: 0, 1, 256, 257, 65535")
-for n, answer in [(0, (4, 1)), (1, (1, 0, 0)), (256, (256, 0, 0)), (257, (4, 1)), (65535, (4, 1))]:
+group("size: 0, 1, 256, 257, 1,024, 1,025, 65535")
+for n, answer in [(0, (4, 1)), (1, (1, 0, 0)), (256, (256, 0, 0)), (257, (257, 0, 0)), (1024, (1024, 0, 0)), (1025, (4, 1)),
+                  (65535, (4, 1))]:
     add(head(n) + END, answer)
 group("gap: 0, 255, 256, 257, 65535")
 for g, answer in [(0, (4, 4)), (255, (4, 4)), (256, (3, 0, 0)), (257, (3, 0, 0)), (65535, (3, 0, 0))]:
@@ -231,9 +247,11 @@ for command, name, largest in [(4, "pair", 15), (5, "single", 7)]:
         add(head() + tone(command, 1, cap=cap) + END, answer)
     for mask, answer in [(0, (3, 1, 0)), (TOP, (3, 1, 0)), (TOP + 1, (4, 22)), (2**64 - 1, (4, 22))]:
         add(head() + tone(command, 1, mask=mask) + END, answer)
-group("word: 7, 8, 255")
+group("word: 7, 8, 31, 32, 255")
 add(head(256) + silence(7, 1 << 31) + END, (256, 0, 1))
-add(head(256) + silence(8, 0) + END, (4, 16))
+add(head(256) + silence(8, 0) + END, (256, 0, 0))
+add(head(1024) + silence(31, 1 << 31) + END, (1024, 0, 1))
+add(head(1024) + silence(32, 0) + END, (4, 16))
 add(head(256) + silence(255, 0) + END, (4, 16))
 
 group("tone N - 1 and N")
@@ -306,8 +324,8 @@ add(size() + gap() + budget(2**64 - 1)[:8], (2, 14))
 add(head() + pair(3)[:2], (2, 17))
 add(head() + pair(3, 0, 0, 255, 2**64 - 1)[:14], (2, 29))
 add(head() + single(1) + single(1, 0)[:14], (2, 44))
-add(head() + silence(8, FULL)[:2], (2, 17))
-add(head() + silence(8, FULL)[:5], (2, 20))
+add(head() + silence(32, FULL)[:2], (2, 17))
+add(head() + silence(32, FULL)[:5], (2, 20))
 group("two faults: a command byte (3) before its missing operands (2)")
 add(b"\x02", (3, 0))
 add(b"\x07", (3, 0))
@@ -327,14 +345,14 @@ add(head() + pair(1, 3, 0, 16) + END, (4, 19))
 add(head() + single(1, 3, 1, 8, TOP + 1) + END, (4, 21))
 add(head() + pair(1, 0, 1, 5, TOP + 1) + END, (4, 17))
 group("two faults: a map's word before its map")
-add(head() + silence(8, FULL) + END, (4, 16))
+add(head() + silence(32, FULL) + END, (4, 16))
 add(head() + silence(255, 1) + END, (4, 16))
 group("two faults: the earlier command first")
 add(size(0) + gap(0) + budget(TOP + 1) + END, (4, 1))
 add(size() + gap(0) + budget(TOP + 1) + END, (4, 4))
 add(size() + gap() + budget(TOP + 1) + b"\xff", (4, 7))
-add(size(257) + b"\xff", (4, 1))
-add(head() + silence(0, 8) + silence(8, 0) + END, (5, 17))
+add(size(1025) + b"\xff", (4, 1))
+add(head() + silence(0, 8) + silence(32, 0) + END, (5, 17))
 add(head() + pair(1, 0) + b"\xff" + END + END, (4, 17))
 add(head() + b"\xff" + pair(3), (3, 15))
 add(head() + pair(1) + pair(1) + END + END, (6, 31))
@@ -355,11 +373,14 @@ whole = in_tenths(100, whole)
 for n in [*range(4, 15), len(whole) - 1]:
     add(whole[:n], (2, n))
 add(whole, (3, 2, 1))
-group("W1: 4,095 bytes, the most that a sheet with 08 can have; a byte more, two bytes more")
-longest = in_tenths(240, head() + NOTHING * 680 + END)
-add(longest, (3, 0, 0))
-add(longest + END, (7, 4095))
-add(longest + END + END, (1, 0))
+group("W1: 32,767 bytes with 08; a byte more, two bytes more; 4,095 and more")
+add(in_tenths(240, longest), (3, 1, 0))
+add(in_tenths(240, longest) + END, (7, 32767))
+add(in_tenths(240, longest) + END + END, (1, 0))
+shorter = in_tenths(240, head() + NOTHING * 680 + END)
+add(shorter, (3, 0, 0))
+add(shorter + END, (7, 4095))
+add(shorter + END + END, (7, 4095))
 group("W1: 08 first, twice, after 02, before 02, after 03, among the tones, before the end, after it")
 add(tenths(100) + size() + budget() + END, (3, 0))
 add(size() + tenths(100) + tenths(100) + budget() + END, (3, 5))
@@ -383,7 +404,7 @@ add(b"\x08", (3, 0))
 add(size() + gap() + b"\x08", (3, 6))
 add(head() + b"\x08", (3, 15))
 add(size(0) + b"\x08", (4, 1))
-add(size(257) + tenths(241) + budget() + END, (4, 1))
+add(size(1025) + tenths(241) + budget() + END, (4, 1))
 add(size() + tenths(241), (4, 4))
 add(size() + tenths(241) + b"\xff", (4, 4))
 add(size() + tenths(241) + budget(TOP + 1) + END, (4, 4))
@@ -391,7 +412,7 @@ add(size() + tenths(240) + budget(TOP + 1) + END, (4, 6))
 group("W1: the places after 08 are one less: 4, 5, 6 and 7 of a tone, a map and an end")
 add(in_tenths(100, head() + pair(1, 0) + END), (4, 16))
 add(in_tenths(100, head() + single(1, 3, 1, 8) + END), (4, 20))
-add(in_tenths(100, head() + silence(8, 0) + END), (4, 15))
+add(in_tenths(100, head() + silence(32, 0) + END), (4, 15))
 add(in_tenths(100, head() + pair(3) + END), (5, 15))
 add(in_tenths(100, head() + silence(0, 8) + END), (5, 16))
 add(in_tenths(100, head() + pair(1) + single(1) + END), (6, 30))
@@ -700,7 +721,7 @@ for start in ([255], [255] * 4, [6, 3]):
 step([255] * 2, sample(39), (9, 0))
 group("order: a damaged sheet before all, here with no room too")
 for sheet, answer in [(sample(39)[:-1], (2, 60)), (sample(39) + END, (7, 61)), (b"", (2, 0)), (at_budget(TOP + 1, sample(0)), (4, 7)),
-                      (line(3, 39, pair(1), pair(1)), (6, 31)), (b"\xff" * 4097, (1, 0))]:
+                      (line(3, 39, pair(1), pair(1)), (6, 31)), (b"\xff" * 32769, (1, 0))]:
     most(sheet, answer)
     target(LARGEST, sheet, answer)
     refit([255], sheet, answer)
@@ -710,8 +731,8 @@ for sheet, answer in [(sample(39)[:-1], (2, 60)), (sample(39) + END, (7, 61)), (
 WIDE = "000080 00*5"
 
 
-def wide(b, body, g=256):
-    return "010100 %s %s %s 07" % (hexed(gap(g), ""), hexed(budget(b), ""), body)
+def wide(b, body, g=256, n=256):
+    return "%s %s %s %s 07" % (hexed(size(n), ""), hexed(gap(g), ""), hexed(budget(b), ""), body)
 
 
 ALL_PAIRS = "(04 ++ 0001 0001 0f %s)*256" % WIDE
@@ -813,7 +834,7 @@ group("W3: the gap counts: the sample line in tenths of a decibel, 0 and 1 and 2
 for d, answer in [(0, "5:mask 2:cap 3:mask"), (1, "4:mask 2:cap 2:mask"), (240, "0:mask 0:mask 0:mask")]:
     limited(in_tenths(d, sample(39)), answer)
 group("W3: refusals of the sheet, each number")
-limited(head() + NOTHING * 681, (1, 0))
+limited(head() + TOO_LONG, (1, 0))
 limited(sample(39)[:60], (2, 60))
 limited("-", (2, 0))
 limited(b"\x02", (3, 0))
@@ -954,13 +975,15 @@ for number in dice.sample(range(256), 24):
 dice.shuffle(commands)
 sheet = line(256, 39, *commands)
 add(sheet, (256, 24, len(model.read(sheet).silenced)))
-group("W5: 214 tones of 09, the most that a sheet holds, 4,082 bytes; 215; 4,096 bytes of 210 and six of 0a; 256 of 0a")
+group("W5: 214 tones of 09, 4,082 bytes; 215, of 4,101; 4,096 bytes of 210 and six of 0a; 256 of 0a, of 09")
 LEVELS = "09 ++ 44==0000 3f80==00 0f " + WIDE
 RATIO = "0a ++ 44==0000 0f " + WIDE
-for body, answer in [("(%s)*214" % LEVELS, (256, 214, 0)), ("(%s)*215" % LEVELS, (1, 0)),
-                     ("(%s)*210 (%s)*6" % (LEVELS, RATIO), (256, 216, 0)), ("(%s)*256" % RATIO, (256, 256, 0))]:
+for body, answer in [("(%s)*214" % LEVELS, (256, 214, 0)), ("(%s)*215" % LEVELS, (256, 215, 0)),
+                     ("(%s)*210 (%s)*6" % (LEVELS, RATIO), (256, 216, 0)), ("(%s)*256" % RATIO, (256, 256, 0)),
+                     ("(%s)*256" % LEVELS, (256, 256, 0))]:
     add(wide(39, body), answer)
-assert [len(model.bytes_of(wide(39, "(%s)*%d (%s)*%d" % (LEVELS, n, RATIO, m)))) for n, m in ((214, 0), (210, 6))] == [4082, 4096]
+for n, m, length in [(214, 0, 4082), (215, 0, 4101), (210, 6, 4096)]:
+    assert len(model.bytes_of(wide(39, "(%s)*%d (%s)*%d" % (LEVELS, n, RATIO, m)))) == length
 
 
 def costs(gap_command, *described):
@@ -1335,7 +1358,7 @@ add(line(256, 44, *resting, pair(255), silence(7, 1 << 31), silence(1, 7)), (16,
 over = head(3, 1) + pair(0) + at_rest(0, 2)
 group("W6, 16 after all that the bytes are refused for: 1, 2, 3, 4, 5, 6, 7, 12, 13, 14, 15 behind rests over the budget")
 for more, answer in [
-        (NOTHING * 700, (1, 0)), (b"", (2, 36)), (pair(1)[:9], (2, 45)), (b"\xff", (3, 36)), (pair(1, 0) + END, (4, 38)),
+        (TOO_LONG, (1, 0)), (b"", (2, 36)), (pair(1)[:9], (2, 45)), (b"\xff", (3, 36)), (pair(1, 0) + END, (4, 38)),
         (pair(3) + END, (5, 37)), (silence(0, 8) + END, (5, 38)), (pair(0) + END, (6, 37)), (END + END, (7, 37)), (END + b"\x00", (7, 37)),
         (reading(1, 0) + END, (12, 38)), (reading(1, DEAR) + END, (13, 38)), (at_rest(1, 0) + END, (14, 37)),
         (at_rest(0, 0) + END, (14, 37)), (pair(1) + at_rest(1, 3) + END, (15, 53)), (END, (16, 0))]:
@@ -1415,21 +1438,21 @@ for ratios in (False, True):
     limited(as_readings(rested(39), ratios), "5:mask 2:cap 3:mask")
     most(at_budget(2, as_readings(rested(39), ratios)), (16, 0))
 
-group("W6: full sheets: 194 pairs of cost 2 with a rest of 1, 4,090 bytes, and 4,096 with a map; 195; rests of 0; 16 at 193")
+group("W6: 194 pairs of cost 2 with a rest of 1, 4,090 bytes, and 4,096 with a map; 195, of which one is silenced; rests of 0; 16 at 193")
 RESTING = "04 ++ 0002 0001 0f %s 0b == 00*3 %%02x" % WIDE
 for body, answer in [("(%s)*194" % RESTING % 1, (256, 194, 0)), ("(%s)*194 06 07 80 00*3" % RESTING % 1, (256, 194, 1)),
-                     ("(%s)*195" % RESTING % 1, (1, 0)), ("(%s)*194 06 07 00*4" % RESTING % 0, (256, 194, 0))]:
+                     ("(%s)*195 06 06 00*3 01" % RESTING % 1, (256, 195, 1)), ("(%s)*194 06 07 00*4" % RESTING % 0, (256, 194, 0))]:
     add(wide(194, body), answer)
 add(wide(193, "(%s)*194" % RESTING % 1), (16, 0))
 add(wide(193, "(%s)*194 06 00 00*3 01" % RESTING % 1), (256, 194, 1))
 assert len(model.bytes_of(wide(194, "(%s)*194" % RESTING % 1))) == 4090
-group("W6: full sheets: 256 tones and 40 rests behind them, 4,096 bytes; 163 of 09 with rests, 4,091; 194 of 0a; 1 of each too many")
+group("W6: 256 tones and 40 rests behind them, 4,096 bytes; 163 of 09 with rests, 4,091; 194 of 0a; 1 more of each, above 4,096 bytes")
 FORTY = "(04 ++ 0002 0001 0f %s)*256 (0b ++ 00*3 01)*40" % WIDE
 LEVELS_RESTING, RATIO_RESTING = LEVELS + " 0b == 000001ff", RATIO + " 0b == 000001ff"
 for body, length, answer in [
-        (FORTY, 4096, (256, 256, 0)), (FORTY + " 0b ++ 00*3 01", 4102, (1, 0)), ("(%s)*163" % LEVELS_RESTING, 4091, (256, 163, 0)),
-        ("(%s)*164" % LEVELS_RESTING, 4116, (1, 0)), ("(%s)*194" % RATIO_RESTING, 4090, (256, 194, 0)),
-        ("(%s)*195" % RATIO_RESTING, 4111, (1, 0))]:
+        (FORTY, 4096, (256, 256, 0)), (FORTY + " 0b ++ 00*3 01", 4102, (256, 256, 0)), ("(%s)*163" % LEVELS_RESTING, 4091, (256, 163, 0)),
+        ("(%s)*164" % LEVELS_RESTING, 4116, (256, 164, 0)), ("(%s)*194" % RATIO_RESTING, 4090, (256, 194, 0)),
+        ("(%s)*195" % RATIO_RESTING, 4111, (256, 195, 0))]:
     assert len(model.bytes_of(wide(TOP, body))) == length
     add(wide(TOP, body), answer)
 # Of each pair no bits send 1, one bit 2, two 6: 194 steps of 1, then those of 4 from 388 on.
@@ -1480,11 +1503,11 @@ target(1000, wide(1000000, FORTY))
 dice = random.Random(11)
 
 
-def with_rests(n, b, largest=9):
-    """A line of up to n tones of all four commands, with rests behind some of them and a silence now and then, at what the rests and
-    b allow; rests of 0 and of all but the cost among them."""
-    commands, least = [], 0
-    for number in dice.sample(range(n), dice.randint(1, n)):
+def with_rests(n, b, largest=9, among=None):
+    """A line of up to n tones, or of some among these, of all four commands, with rests behind some of them and a silence now and
+    then, at what the rests and b allow; rests of 0 and of all but the cost among them."""
+    commands, least, among = [], 0, among or range(n)
+    for number in dice.sample(among, dice.randint(1, len(among))):
         kind, noise, gain = dice.choice((4, 4, 5, 9, 0x0a)), dice.randint(1, largest), dice.choice((1, 2, 4))
         levels = {"cap": dice.randint(0, 7), "mask": dice.randint(0, 20 * largest)}
         floats = {9: (float_of(noise), float_of(gain)), 0x0a: (float_of(Fraction(noise, gain)),)}
@@ -1496,7 +1519,7 @@ def with_rests(n, b, largest=9):
             least += power
     # Each 0B may move back, over commands of other tones.
     for i in range(len(commands) - 1, -1, -1):
-        if commands[i][0] == 0x0b:
+        if commands[i][0] in (0x0b, 0x1b):
             command = commands.pop(i)
             commands.insert(dice.randint(i, len(commands)), command)
     if dice.randint(0, 1) == 0:
@@ -1569,7 +1592,7 @@ for entries in ("(00*7 ++)*32", "(00*7 27)*32", "00*256"):
 
 small, of_small = line(1, 39, pair(0)), [0, 3, 9, 21, 45, 93]
 group("W7, 4: a list of no bytes, 7, 9, 15, 257, of 33 entries, and as long as the buffer: place 0")
-for entries in ("-", "00*7", "00*9", "00*7 27 00*7", "00*257", "(00*7 ++)*33", "00*9999"):
+for entries in ("-", "00*7", "00*9", "00*7 27 00*7", "00*257", "(00*7 ++)*33", "00*99999"):
     budgets(entries, small, (4, 0))
 group("W7, 4: the length before the second entry, falling or above 2^47: 33 entries, 17 bytes")
 for entries in ("00*7 05 00*7 04 00*248", "00*7 05 (000080 00*4 01)*32", "00*7 05 00*7 04 00"):
@@ -1590,7 +1613,7 @@ for entries, place in [([39, TOP + 1, 5], 1), ([39, 38, TOP + 1], 1), ([TOP + 1,
     budgets(entries, small, (4, place))
 
 group("W7: 1 to 7 and 12 to 15 of the sheet before 4 of a falling list and before 16; before one of no bytes, too long, too large; 16 alone")
-faults = [(NOTHING * 700, (1, 0)), (b"", (2, 36)), (b"\xff", (3, 36)), (pair(1, 0) + END, (4, 38)), (pair(3) + END, (5, 37)),
+faults = [(TOO_LONG, (1, 0)), (b"", (2, 36)), (b"\xff", (3, 36)), (pair(1, 0) + END, (4, 38)), (pair(3) + END, (5, 37)),
           (pair(0) + END, (6, 37)), (END + END, (7, 37)), (reading(1, 0) + END, (12, 38)), (reading(1, DEAR) + END, (13, 38)),
           (at_rest(0, 0) + END, (14, 37)), (pair(1) + at_rest(1, 3) + END, (15, 53))]
 for more, answer in faults:
@@ -1654,9 +1677,357 @@ group("W7: a sheet whose first digit is b, as the word budgets begins")
 for first in ["b0", "bb 00"]:
     add(first, (3, 0))
 
+# Twins. A sheet of short commands and one of their twins say the same line.
+
+
+def of_tone(command, number, width=None):
+    """A short command's bytes for another tone, its number in so many bytes, or as the tidy form has it."""
+    return model.named(command[0], number, width) + command[2:]
+
+
+rest = at_rest(1, 2)
+group("W8: the twins of 04, 05, 09, 0a for a low tone: tidied to the short command")
+for way in ways:
+    add(head() + twin(way) + END, (3, 1, 0), head() + way + END)
+group("W8: a rest by 0b for a tone of each twin, by 1b for one of each command, by 1b for a twin; of 0 by 1b; before its tone's silence")
+for way in ways:
+    for described_by, given_by in [(twin(way), rest), (way, twin(rest)), (twin(way), twin(rest))]:
+        add(head() + described_by + given_by + END, (3, 1, 0), head() + way + rest + END)
+    add(head() + way + twin(at_rest(1, 0)) + END, (3, 1, 0), head() + way + END)
+    add(head() + twin(way) + twin(rest) + silence(0, 2) + END, (3, 1, 1), head() + way + rest + silence(0, 2) + END)
+group("W8: the sample line in twins, with rests, with its pairs as 09 and 0a, with 08; some twins among short commands")
+for sheet in (model.SAMPLE, rested(39), as_readings(rested(39), False), as_readings(rested(39), True), in_tenths(100, model.SAMPLE)):
+    add(twinned(sheet), (3, 3, 0), sheet)
+add(line(3, 39, twin(described[2]), twin(described[1]), described[0], at_rest(1, 1), twin(at_rest(0, 2))), (3, 3, 0), rested(39))
+group("W8: the twins for tone N - 1 and N: N 1, 256, 257, 1,024")
+for way in ways:
+    for n in (1, 256, 257, 1024):
+        add(head(n) + of_tone(way, n - 1, 2) + END, (n, 1, 0), head(n) + of_tone(way, n - 1) + END)
+        add(head(n) + of_tone(way, n, 2) + END, (5, 16))
+for n in (1, 256, 257, 1024):
+    add(head(n) + of_tone(pair(1), n - 1, 2) + of_tone(rest, n - 1, 2) + END, (n, 1, 0), head(n) + pair(n - 1) + at_rest(n - 1, 2) + END)
+    add(head(n) + of_tone(pair(1), n - 1, 2) + of_tone(rest, n, 2) + END, (5, 32))
+group("W8: a short command for tone 255 of 257 and of 1,024; a tone number high byte first; all of it: 256, 512, 65535 are not tone 0")
+for n in (257, 1024):
+    add(head(n) + pair(255) + END, (n, 1, 0))
+add(head(300) + pair(0x0101) + END, (300, 1, 0))
+add(head(300) + pair(0x0201) + END, (5, 16))
+add(head(1024) + pair(0x0201) + pair(0x0102) + END, (1024, 2, 0), head(1024) + pair(0x0102) + pair(0x0201) + END)
+for number in (256, 512, 1024, 0xff00, 65535):
+    add(head() + pair(number) + END, (5, 16))
+add(head(1024) + pair(65535) + END, (5, 16))
+add(head(1024) + b"".join(pair(number) for number in (768, 512, 256, 0)) + END, (1024, 4, 0))
+
+group("W8, the places in 14 and 15: noise, gain, cap, mask")
+for command, over_cap in [(4, 16), (5, 8)]:
+    for fault, place in [({"noise": 0}, 18), ({"gain": 0}, 20), ({"cap": over_cap}, 22), ({"mask": TOP + 1}, 23)]:
+        add(head() + twin(tone(command, 1, **fault)) + END, (4, place))
+group("W8, the places in 19 and 1a: 12, 13, 4 of the cap and of the mask")
+for floats, levels, answer in [
+        ((0, ONE), {}, (12, 18)), ((ONE, NAN), {}, (12, 22)), ((DEAR, ONE), {}, (13, 18)), ((GREATEST, SMALLEST), {}, (13, 18)),
+        ((ONE, ONE), {"cap": 16}, (4, 26)), ((ONE, ONE), {"mask": TOP + 1}, (4, 27)), ((NAN,), {}, (12, 18)), ((DEAR,), {}, (13, 18)),
+        ((ONE,), {"cap": 16}, (4, 22)), ((ONE,), {"mask": TOP + 1}, (4, 23))]:
+    add(head() + twin(reading(1, *floats, **levels)) + END, answer)
+group("W8, the places in 1b: 5, 14, 15, of a tone of 04, of 14; the same for tone 300 of 301")
+for way in (pair(1), twin(pair(1))):
+    at = 16 + len(way)
+    for number, power, answer in [(3, 0, (5, at)), (0, 0, (14, at)), (1, 3, (15, at + 2)), (1, FULL, (15, at + 2))]:
+        add(head() + way + twin(at_rest(number, power)) + END, answer)
+for number, power, answer in [(301, 0, (5, 32)), (299, 0, (14, 32)), (300, 3, (15, 34)), (300, 2, (301, 1, 0))]:
+    add(head(301) + pair(300) + at_rest(number, power) + END, answer)
+group("W8, the places after 08 are one less: 4, 5, 6, 12, 13, 14, 15")
+for commands, answer in [
+        (twin(pair(1, 0)), (4, 17)), (twin(pair(3)), (5, 15)), (pair(1) + twin(single(1)), (6, 30)), (twin(reading(1, ONE, 0)), (12, 21)),
+        (twin(reading(1, DEAR)), (13, 17)), (pair(1) + twin(at_rest(0, 0)), (14, 30)), (pair(1) + twin(at_rest(1, 30)), (15, 32))]:
+    add(in_tenths(100, head() + commands + END), answer)
+group("W8: a tone described twice, by a command and a twin, a twin and a command, two twins; tone 256 twice; tones 0 and 256")
+for n, first in enumerate(ways):
+    for second in (first, ways[n - 1]):
+        for both in [(first, twin(second)), (twin(first), second), (twin(first), twin(second))]:
+            add(head() + b"".join(both) + END, (6, 16 + len(both[0])))
+add(head(257) + pair(256) + pair(0) + single(256) + END, (6, 47))
+add(head(257) + pair(256) + pair(0) + twin(single(0)) + END, (6, 47))
+group("W8, 14: a second rest by the other width, by 1b twice; the first of 0, of 2; of a tone of 04, of 14; of tone 256")
+for way in (pair(1), twin(pair(1))):
+    for first in (0, 2):
+        for both in [(at_rest(1, first), twin(rest)), (twin(at_rest(1, first)), rest), (twin(at_rest(1, first)), twin(rest))]:
+            add(head() + way + b"".join(both) + END, (14, 16 + len(way + both[0])))
+for first in (0, 2):
+    add(head(257) + pair(256) + at_rest(256, first) + at_rest(256, 0) + END, (14, 39))
+group("W8, 14: tone 256 not described beside tone 0, and the other way round; described later; round the ends of words, a second of each")
+for first, second in [(0, 256), (256, 0), (255, 256), (256, 512)]:
+    add(head(1024) + pair(first) + at_rest(second, 0) + END, (14, 16 + len(pair(first))))
+add(head(1024) + at_rest(256, 0) + pair(256) + END, (14, 16))
+ends_of_words = (0, 255, 256, 287, 288, 511, 512, 767, 768, 1023)
+resting = head(1024) + b"".join(pair(n) for n in ends_of_words) + b"".join(at_rest(n, n % 3) for n in ends_of_words)
+add(resting + END, (1024, 10, 0))
+for number in (255, 256, 288, 1023):
+    add(resting + at_rest(number, 1) + END, (14, len(resting) + 1))
+
+group("W8: the twins cut at each byte, between the two of the tone number too")
+for way in [*ways, rest]:
+    whole = head() + (pair(1) if way == rest else b"") + twin(way)
+    for n in range(len(whole) - len(twin(way)) + 1, len(whole) + 1):
+        add(whole[:n], (2, n))
+group("W8, two faults: cut (2) before all of these; the tone (5, 6, 14) before what follows; the earlier first")
+add(head() + b"\x14\xff", (2, 17))
+add(head() + b"\x14\xff\xff", (2, 18))
+add(head() + pair(1) + b"\x1b\xff\xff\xff\xff\xff", (2, 36))
+add(head() + twin(reading(3, 0, NAN, cap=255))[:19], (2, 34))
+add(head() + pair(1) + twin(single(1, 0, 0, 255, 2**64 - 1))[:15], (2, 45))
+add(head() + twin(pair(3, 0, 0, 16, TOP + 1)) + END, (5, 16))
+add(head() + pair(1) + twin(reading(1, 0, NAN, cap=16)) + END, (6, 31))
+add(head() + pair(1) + twin(at_rest(0, FULL)) + END, (14, 31))
+add(head() + twin(pair(1, 0)) + twin(pair(3)) + END, (4, 18))
+add(head() + twin(pair(3)) + twin(pair(1, 0)) + END, (5, 16))
+group("W8: twins first, in place of 02, of 03, after 08, after the end; cut off there")
+for command in (twin(pair(1)), twin(rest), b"\x1a"):
+    add(command + head() + END, (3, 0))
+    add(size() + command, (3, 3))
+    add(size() + gap() + command, (3, 6))
+    add(size() + tenths(100) + command, (3, 5))
+    add(head() + END + command, (7, 16))
+group("W8: 10 (hex) more than a command without a tone: 11, 12, 18, 13 in the place of those; 16, 17 and others after the first three")
+add(b"\x11" + head()[1:] + END, (3, 0))
+for byte in (0x12, 0x18):
+    add(size() + bytes([byte]) + gap()[1:] + budget() + END, (3, 3))
+add(size() + gap() + b"\x13" + budget()[1:] + END, (3, 6))
+add(head() + b"\x16\x00" + silence(0, 1)[1:] + END, (3, 15))
+for byte in (0x10, 0x13, 0x16, 0x17, 0x18, 0x1c, 0x1f, 0x24, 0x84, 0x94):
+    add(head() + bytes([byte]) + END, (3, 15))
+add(head() + pair(1) + b"\x17", (3, 30))
+
+group("W8: words 8 to 31, one bit each, rising and falling; all full; 32 and 255 behind them")
+for words in (range(8, 32), range(31, 7, -1)):
+    add(head(1024) + b"".join(silence(word, 1 << word) for word in words) + END, (1024, 0, 24),
+        head(1024) + b"".join(silence(word, 1 << word) for word in range(8, 32)) + END)
+add("%s (06 ++ ff*4)*32 07" % spelled(head(1024)), (1024, 0, 1024))
+for word in (32, 255):
+    add(head(1024) + silence(31, FULL) + silence(word, 0) + END, (4, 22))
+group("W8: a map that names tone N - 1 and N: N 257, 288, 289, 1,023; a word past N, with an empty map and with one that is not")
+for n, word, bit in [(257, 8, 0), (289, 9, 0), (1023, 31, 30)]:
+    add(head(n) + silence(word, 1 << bit) + END, (n, 0, 1))
+    add(head(n) + silence(word, 1 << bit + 1) + END, (5, 17))
+add(head(288) + silence(8, FULL) + END, (288, 0, 32))
+add(head(288) + silence(9, 1) + END, (5, 17))
+for n in (3, 256, 992):
+    add(head(n) + silence(31, 0) + END, (n, 0, 0))
+    add(head(n) + silence(31, 1) + END, (5, 17))
+add(head(256) + silence(8, 1) + END, (5, 17))
+group("W8, tidy: maps of word 8 and of word 31 join, among those of words 0 and 7; tones 256, 287, 1,023 silenced before, after, both")
+add(line(1024, 39, silence(31, 1), silence(8, 0xf0f0), silence(0, 2), silence(8, 0x0ff0), silence(7, 4), silence(31, FULL - 1)),
+    (1024, 0, 46), line(1024, 39, silence(0, 2), silence(7, 4), silence(8, 0xfff0), silence(31, FULL)))
+add(line(1024, 39, silence(8, 1), pair(256), single(1023), silence(31, 1 << 31), silence(8, 1 << 31), pair(287), silence(8, 1 << 31)),
+    (1024, 3, 3), line(1024, 39, pair(256), pair(287), single(1023), silence(8, 1 << 31 | 1), silence(31, 1 << 31)))
+
+group("W8, tidy: tones 255 and 256 next to each other: falling, in twins, with rests, of each command; 254 to 257")
+for way in ways:
+    both = of_tone(way, 255) + at_rest(255, 2) + of_tone(way, 256) + at_rest(256, 1)
+    for first in (of_tone(way, 255), of_tone(way, 255, 2)):
+        add(line(1024, 39, of_tone(way, 256), first, at_rest(256, 1), twin(at_rest(255, 2))), (1024, 2, 0), line(1024, 39, both))
+    add(line(257, 39, both), (257, 2, 0), line(257, 39, both))
+add(line(258, 39, *(of_tone(pair(1), n, 2) for n in (257, 255, 254, 256))), (258, 4, 0), line(258, 39, *(pair(n) for n in range(254, 258))))
+add(line(258, 39, of_tone(pair(1), 255, 2), of_tone(at_rest(1, 0), 255, 2), pair(256), at_rest(256, 0)), (258, 2, 0),
+    line(258, 39, pair(255), pair(256)))
+
+group("W8: the sample line in twins: document 01's cases, and with rests; limits, budgets")
+for b, bits in [(39, [3, 2, 1]), (38, [2, 2, 1]), (3, [1, 0, 0]), (171, [5, 2, 3])]:
+    most(twinned(sample(b)), bits)
+target(6, twinned(sample(39)), [3, 2, 1])
+target(6, twinned(sample(38)), (11, 0))
+refit([0, 2, 3], twinned(sample(39)), ([3, 2, 1], 3))
+step([0, 2, 3], twinned(sample(39)), ([1, 2, 2], 1))
+refit([5, 3, 3], twinned(sample(39)), (10, 1))
+limited(twinned(sample(39)), "5:mask 2:cap 3:mask")
+most(twinned(rested(4)), [1, 0, 0], [3, 1, 0])
+most(twinned(rested(2)), (16, 0))
+target(0, twinned(as_readings(rested(39), True)), [0, 0, 0], [2, 1, 0])
+refit([0, 2, 3], twinned(as_readings(rested(39), False)), ([3, 2, 1], 3), [21, 15, 3])
+along([2, 3, 38, 39, TOP], bare, twinned(sample(0)))
+along([3, 4, 38, 39, TOP], with_rests_of_3, twinned(rested(3)))
+
+
+def at_end(bits, n=258):
+    """The bits of the last tones of a line; those before have none."""
+    return [0] * (n - len(bits)) + bits
+
+
+def moved(b, n=258):
+    """The sample line's tones as the last three of more: of 258, tones 255, 256 and 257."""
+    return line(n, b, *(of_tone(command, n - 3 + tone) for tone, command in enumerate(described)))
+
+
+group("W8: its tones as 255, 256, 257: document 01's cases; as 1,021 to 1,023")
+for b, bits in [(39, [3, 2, 1]), (38, [2, 2, 1]), (50, [3, 2, 1]), (51, [3, 2, 2]), (2, [0, 0, 0]), (3, [1, 0, 0]), (170, [5, 2, 2]),
+                (171, [5, 2, 3])]:
+    most(moved(b), at_end(bits))
+target(6, moved(39), at_end([3, 2, 1]))
+target(6, moved(38), (11, 0))
+refit(at_end([0, 2, 3]), moved(39), (at_end([3, 2, 1]), 3))
+step(at_end([0, 2, 3]), moved(39), (at_end([1, 2, 2]), 1))
+step(at_end([3, 2, 1]), moved(39), (at_end([3, 2, 1]), 0))
+most(moved(39, 1024), at_end([3, 2, 1], 1024))
+refit(at_end([0, 2, 3], 1024), moved(38, 1024), (at_end([2, 2, 1], 1024), 2))
+limited(moved(39), "0:silent " * 255 + "5:mask 2:cap 3:mask")
+group("W8: ties of 255, 256, 257 at 3, 6, 9, 15 go to the lowest, described by 04 or 14, in either order; exchanges to it and not from it")
+for first in (of_tone(pairs[0], 255), of_tone(pairs[0], 255, 2)):
+    tied = [of_tone(pairs[0], 257), of_tone(pairs[0], 256), first]
+    for b, bits in [(3, [1, 0, 0]), (6, [1, 1, 0]), (9, [1, 1, 1]), (15, [2, 1, 1])]:
+        most(line(258, b, *tied), at_end(bits))
+    for b, start, bits, moves in [(3, [0, 1, 0], [1, 0, 0], 1), (3, [1, 0, 0], [1, 0, 0], 0), (6, [0, 0, 2], [1, 1, 0], 2)]:
+        refit(at_end(start), line(258, b, *reversed(tied)), (at_end(bits), moves))
+    step(at_end([0, 1, 1]), line(258, 6, *tied), (at_end([1, 1, 0]), 1))
+group("W8: ties of tones 0, 256, 512 and 768")
+quarters = [of_tone(pairs[0], number) for number in (512, 0, 768, 256)]
+for b, bits in [(3, [1, 0, 0, 0]), (9, [1, 1, 1, 0]), (15, [1, 1, 1, 1])]:
+    most(line(1024, b, *quarters), [bits[n // 256] if n % 256 == 0 else 0 for n in range(1024)])
+group("W8: tones 256 and 1,023 silenced, before their commands and after; one bit on such a one is 10; on one not described")
+for commands in ([silence(8, 1), pair(256), pair(255)], [pair(255), pair(256), silence(8, 1)]):
+    most(line(257, TOP, *commands), at_end([5, 0], 257))
+    refit(at_end([1, 1], 257), line(257, TOP, *commands), (10, 256))
+most(line(1024, TOP, pair(1022), pair(1023), silence(31, 1 << 31)), at_end([5, 0], 1024))
+step(at_end([1], 1024), line(1024, TOP, pair(1022)), (10, 1023))
+group("W8, 9: starts of 1,023, 1,025, 256 and no bytes for N 1,024, of 256 and 258 for N 257")
+for n, wrong in [(1024, (1023, 1025, 256, 0)), (257, (256, 258))]:
+    for length in wrong:
+        refit([255] * length, line(n, TOP), (9, 0))
+    refit([0] * n, line(n, TOP), ([0] * n, 0))
+step([0] * 1025, line(1024, TOP), (9, 0))
+group("W8, 16: rests of 2 on tones 255 and 256, and 1 on 1,023, at 5 and 4; a silence of word 8, of word 31 saves it; by the first budget")
+resting = [pair(256), at_rest(256, 2), pair(255), pair(1023), at_rest(1023, 1), at_rest(255, 2)]
+for b, commands, answer in [
+        (5, resting, (1024, 3, 0)), (4, resting, (16, 0)), (3, [*resting, silence(8, 1)], (1024, 3, 1)),
+        (2, [silence(8, 1), *resting], (16, 0)), (4, [*resting, silence(31, 1 << 31)], (1024, 3, 1)),
+        (4, [*resting, silence(8, 2)], (16, 0)),
+        (0, [silence(8, 1), *resting, silence(7, 1 << 31), silence(31, 1 << 31)], (1024, 3, 3))]:
+    add(line(1024, b, *commands), answer)
+# No bits send 5; the first steps are 1, 1 and 2.
+along([5, 6, 7, 9], [5, 6, 7, 9], line(1024, 0, *resting))
+budgets([4, 5], line(1024, TOP, *resting), (16, 0))
+
+# Lines of 1,024 tones, written with a running byte: each 256 begin again at 0.
+
+
+def blocks(*bodies):
+    """Blocks of 256 tones, each with its high byte: by short commands where that is 0, else by their twins. In a body `#` stands for the
+    first digit of a command, and `@` for the high byte."""
+    return " ".join("(%s)*256" % body.replace("#", "1" if n else "0").replace("@ ", "%02x " % n if n else "") for n, body in bodies)
+
+
+def all_tones(body, order=range(4)):
+    return blocks(*((n, body) for n in order))
+
+
+# Steps of 1 on every tone, then of 2.
+SMALL = all_tones("#4 @ ++ 0001 0001 02 " + WIDE)
+group("W8: 1,024 pairs of cost 1, cap 2: check and tidy; the blocks of 256 in another order, in twins; limits")
+add(wide(39, SMALL, n=1024), (1024, 1024, 0), model.bytes_of(wide(39, SMALL, n=1024)))
+assert len(model.bytes_of(wide(39, SMALL, n=1024))) == 16 + 256 * 15 + 768 * 16
+operands = "0001 0001 02 " + WIDE
+add(wide(39, "(14 03 ++ %s 15 01 == %s)*256 (14 00 ++ %s)*128 (04 ++ %s)*128 (15 02 ++ %s)*256" % (5 * (operands,)), n=1024),
+    (1024, 1024, 0))
+limited(wide(39, SMALL, n=1024), " ".join(["2:cap"] * 1024))
+group("W8: its most bits at 0, 1, 255, 256, 1,023, 1,025, 1,026, one below the full table's power, 2^47; its targets")
+for b, bits in [(0, []), (1, [1]), (255, [1] * 255), (256, [1] * 256), (1023, [1] * 1023), (1025, [1] * 1024), (1026, [2] + [1] * 1023),
+                (3071, [2] * 1023 + [1]), (TOP, [2] * 1024)]:
+    most(wide(b, SMALL, n=1024), bits + [0] * (1024 - len(bits)))
+target(1024, wide(1025, SMALL, n=1024), [1] * 1024)
+target(1025, wide(1025, SMALL, n=1024), (11, 0))
+target(2049, wide(TOP, SMALL, n=1024), (11, 0))
+group("W8: its re-fits from the full table at 0 and 1,024, from the upper half, from no bits; steps; 10 at 256 and 1,023")
+refit([2] * 1024, wide(0, SMALL, n=1024), ([0] * 1024, 2048))
+refit([2] * 1024, wide(1024, SMALL, n=1024), ([1] * 1024, 1024))
+refit([0] * 512 + [2] * 512, wide(1024, SMALL, n=1024), ([1] * 1024, 512))
+refit([0] * 1024, wide(256, SMALL, n=1024), ([1] * 256 + [0] * 768, 256))
+step([0] * 1023 + [1], wide(1, SMALL, n=1024), ([1] + [0] * 1023, 1))
+step([1] * 255 + [0, 1] + [0] * 767, wide(256, SMALL, n=1024), ([1] * 256 + [0] * 768, 1))
+step([1] * 257 + [0] * 767, wide(256, SMALL, n=1024), ([1] * 256 + [0] * 768, 1))
+refit([2] * 256 + [3] * 768, wide(TOP, SMALL, n=1024), (10, 256))
+refit([2] * 1023 + [3], wide(TOP, SMALL, n=1024), (10, 1023))
+group("W8: 32 budgets on it: from 0 to 31, and up to 2^47")
+totals = [*range(1024), *range(1024, 3073, 2)]
+along("(00*7 ++)*32", totals, wide(39, SMALL, n=1024))
+along([0, 255, 256, 1023, 1024, 1025, 1026, 3071, 3072, TOP], totals, wide(0, SMALL, n=1024))
+group("W8: 1,024 pairs of cost 1, cap 15, at 2^47: 15,360 bits")
+most(wide(TOP, all_tones("#4 @ ++ 0001 0001 0f " + WIDE), n=1024), [15] * 1024)
+# A full table sends above 2^47; 13 bits each send 21,465,924,608 less than that, and a step from there is 8,192 costs.
+group("W8: 1,024 pairs of the largest cost at 2^47: 13 bits each; re-fits from the full table, above the budget, and from 13, 14 by turns")
+DEAREST = all_tones("#4 @ ++ ffff 0001 0f " + WIDE)
+assert 1024 * 32767 * 16776705 > TOP > 1024 * 8191 * 16776705 > TOP - 8192 * 16776705
+most(wide(TOP, DEAREST, 65535, 1024), [13] * 1024)
+refit([15] * 1024, wide(TOP, DEAREST, 65535, 1024), ([13] * 1024, 2048))
+# The upper half gives its bits to the lower, in 256 exchanges; then 512 are given up.
+refit("(0d 0e)*512", wide(TOP, DEAREST, 65535, 1024), ([13] * 1024, 768))
+group("W8: 1,024 tones of all four commands with costs that rise: most bits, target, re-fit; the same budgets in a list")
+FOUR = blocks((0, "04 ++ 01== 0020 03 " + WIDE), (1, "15 01 ++ 01== 000a 03 " + WIDE), (2, "19 02 ++ 41==0000 3f80==00 03 " + WIDE),
+              (3, "1a 03 ++ 41==0000 03 " + WIDE))
+bits = most(wide(60000, FOUR, n=1024))
+target(sum(bits), wide(60000, FOUR, n=1024), bits)
+target(sum(bits) + 1, wide(60000, FOUR, n=1024), (11, 0))
+refit([3] * 1024, wide(60000, FOUR, n=1024), (bits, 3072 - sum(bits)))
+refit("(00 03)*512", wide(60000, FOUR, n=1024))
+budgets([0, 1000, 20000, 60000, TOP], wide(39, FOUR, n=1024))
+group("W8: 1,024 pairs of cost 2, cap 2, each with a rest of 1: 16 at 1,023, no bits at 1,024; 1,025 and more; rests behind all tones")
+STRAIGHT = all_tones("#4 @ ++ 0002 0001 02 %s #b @ == 00*3 01" % WIDE)
+BEHIND_ALL = all_tones("#4 @ ++ 0002 0001 02 " + WIDE) + " " + all_tones("#b @ ++ 00*3 01", (3, 1, 2, 0))
+most(wide(1023, STRAIGHT, n=1024), (16, 0))
+for b, bits in [(1024, []), (1025, [1]), (1280, [1] * 256), (2048, [1] * 1024), (2052, [2] + [1] * 1023)]:
+    most(wide(b, STRAIGHT, n=1024), bits + [0] * (1024 - len(bits)))
+refit([2] * 1024, wide(1281, BEHIND_ALL, n=1024), ([1] * 257 + [0] * 767, 2048 - 257))
+add(wide(1023, BEHIND_ALL, n=1024), (16, 0))
+most(wide(1023, BEHIND_ALL + " 06 1f 80 00*3", n=1024), [0] * 1024, [1] * 1023 + [0])
+budgets([1024, 1025, 2048, 2052], wide(0, BEHIND_ALL, n=1024), [(0, 1024), (1, 1025), (1024, 2048), (1025, 2052)])
+budgets([1023, 1024], wide(TOP, STRAIGHT, n=1024), (16, 0))
+# The longest tidy form there is: 1,024 tones of 09 or 19 with rests, 27,136 bytes, and a map of each word, 192; 904 maps of nothing.
+group("W8: 32,768 bytes: 1,024 tones of 09 and 19 with rests, maps of 32 words, and maps of nothing; a byte more; its most bits, limits")
+MAPS = " (06 ++ 00*3 01)*32"
+WHOLE = all_tones("#9 @ ++ 40400000 3f800000 01 00*7 64 #b @ == 00*3 02") + MAPS
+FILLED = WHOLE + " (06 00*5)*904"
+assert [len(model.bytes_of(wide(2047, body, n=1024))) for body in (WHOLE, FILLED)] == [27344, 32768]
+add(wide(2047, FILLED, n=1024), (1024, 1024, 32), model.bytes_of(wide(2047, WHOLE, n=1024)))
+for more in ("07", "00"):
+    add(wide(2047, FILLED, n=1024) + " " + more, (1, 0))
+add(wide(1983, FILLED, n=1024), (16, 0))
+# Rests of 2 on 992 tones; a first step is 1.
+for b, bits in [(1984, 0), (2047, 63), (2976, 992)]:
+    given = most(wide(b, FILLED, n=1024))
+    assert sum(given) == bits and given[:34] == [0] + [min(bits, 1)] * 31 + [0] + [min(bits, 1)]
+most(wide(2047, FILLED, n=1024) + " 07", (1, 0))
+limited(wide(1984, FILLED, n=1024), " ".join((["0:silent"] + ["1:cap"] * 31) * 32))
+
+dice = random.Random(1024)
+
+
+def some_twins(sheet):
+    """A sheet with the twin of some of its short commands."""
+    return b"".join(twin(c) if c[0] in model.AFTER_TONE and dice.randint(0, 1) == 0 else c for c in model.commands_of(sheet))
+
+
+group("W8: six lines of 6, 258 and 1,024 tones, up to eight described: check and tidy, most bits, re-fit, step, target, budgets")
+for turn in range(6):
+    n = (6, 258, 1024)[turn % 3]
+    least = with_rests(n, 0, 9, sorted({*range(2), *range(254, 258), *range(n - 2, n)} & {*range(n)}))
+    b = model.number(least[7:15])
+    sheet = some_twins(at_budget(b + dice.choice((0, dice.randint(0, 9), dice.randint(0, 200))), least))
+    add(sheet, model.check(sheet))
+    start = [dice.randint(0, limit) for limit in model.loading_of(sheet).limits]
+    bits, _ = refit(start, sheet)
+    most(sheet, bits)
+    step(start, sheet)
+    target(max(0, sum(bits) - dice.randint(-1, 3)), sheet)
+    budgets(sorted(dice.randint(max(0, b - 1), b + 150) for _ in range(dice.randint(1, 5))), sheet)
+group("W8: a dozen lines of 258 tones at a smaller budget, with a 0b or 1b, or a command, of any tone behind: mostly refused")
+for turn in range(4):
+    least = some_twins(with_rests(258, 0, 9, [0, 1, 254, 255, 256, 257]))
+    number = dice.choice((0, 1, 254, 255, 256, 257, 258))
+    width = dice.choice((None, 2))
+    add(least[:-1] + of_tone(at_rest(0, dice.choice((0, 1, 2, FULL))), number, width) + END, None)
+    add(least[:-1] + of_tone(dice.choice(ways), number, width) + END, None)
+    add(at_budget(max(0, model.number(least[7:15]) - dice.randint(0, 2)), least), None)
+
 text = "".join(r + "\n" for r in ROWS)
 # The test program's buffer for its text (`text_buffer` of crates/samplebuffers).
-assert len(text) <= 262144, len(text)
+assert len(text) <= 524288, len(text)
 for name, what in [("stdin", text), ("stdout", model.expected(text))]:
     with open(sys.argv[1] + "/" + name, "w") as f:
         f.write(what)

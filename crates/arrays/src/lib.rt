@@ -61,7 +61,7 @@ pub fn fill_arrays(
     let parts = gaps::parts(gap);
     let mut i: usize = 0;
     while i < header.size as usize {
-        let tone = i as u8;
+        let tone = i as u16;
         let silenced = silence::is_silenced(maps, tone);
         let steps = steps_at(s, parts, places[i], rested[i], silenced);
         limits[i] = steps.limit.bits;

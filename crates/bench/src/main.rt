@@ -91,7 +91,7 @@ fn show(sheet: &[u8]) {
     }
 }
 
-// A sheet of more than 4,096 bytes arrives as one, whether or not all of it fits the buffer.
+// A sheet that is too long arrives as one, whether or not all of it fits the buffer.
 fn main() {
     let mut input = io::large_buffer();
     let n = io::read_full(0, &mut input);

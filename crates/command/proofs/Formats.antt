@@ -12,8 +12,8 @@ use Rattle.bigendian.specs.Number.{number}
 use Rattle.refusals.specs.declared.Refusal.{Refusal}
 use Rattle.rows.specs.declared.Header.{Header}
 use Rattle.rows.specs.declared.Command.{Command}
-use Rattle.rows.specs.Rows.{Seen, Operand, Row, within, silence, tenthsRows, readingRows, restRows, rowsOf, width, withCode, judged, operandsFrom, rowAt}
-use Rattle.command.specs.Format.{Format, formatOf, document01, withTenths, withReadings, today, isRefused, Covers, Covered, Within}
+use Rattle.rows.specs.Rows.{Seen, Operand, Row, within, silence, end, tenthsRows, readingRows, restRows, twinRows, rowsOf, width, withCode, judged, operandsFrom, rowAt}
+use Rattle.command.specs.Format.{Format, formatOf, document01Tones, document01Words, document01Bytes, document01, withTenths, withReadings, withRests, today, isRefused, Covers, Covered, Within}
 use Rattle.command.proofs.Walk.{in-within}
 
 -- what holds of the elements of two lists, one by one
@@ -105,6 +105,10 @@ wider {t} {t′} {w} {w′} tones words bytes = record {
     same : (r : Row) → Like r r
     same r = record { same-code = refl; covers = covers-same r }
 
+    -- those after the silence command
+    laterRows : (n : ℕ) → List Row
+    laterRows n = end ∷ (readingRows (suc (suc (suc n))) ++ restRows (suc (suc (suc n))) ++ twinRows (suc (suc (suc n))))
+
     all-same : (rs : List Row) → Paired Like rs rs
     all-same [] = tt
     all-same (r ∷ rs) = (same r, all-same rs)
@@ -115,7 +119,7 @@ wider {t} {t′} {w} {w′} tones words bytes = record {
     rows (suc (suc zero)) = all-same (rowsOf t w 2)
     rows (suc (suc (suc n))) =
         let words-wider : Covers (silence w′) (silence w) = covers-wider _ _ _ _ (wider-within 1 0 (omega arith), (wider-same _, tt)) in
-        (same _, (same _, (record { same-code = refl; covers = words-wider }, (same _, (same _, (same _, (same _, tt)))))))
+        (same _, (same _, (record { same-code = refl; covers = words-wider }, all-same (laterRows n))))
 
 pub within-same : (F : Format) → Within F F
 within-same F = record { no-longer = omega arith; covered = λ stage code. same (withCode (F .rows stage) code) }
@@ -143,5 +147,15 @@ pub readings-within : Within withTenths withReadings
 readings-within = record { no-longer = omega arith; covered = λ stage code. more-rows (withTenths .rows stage) (readingRows stage) code }
 
 -- W6: and with 0B, what that one takes
-pub rests-within : Within withReadings today
+pub rests-within : Within withReadings withRests
 rests-within = record { no-longer = omega arith; covered = λ stage code. more-rows (withReadings .rows stage) (restRows stage) code }
+
+-- W8: and with the twins, what that one takes; so does one with more tones, words and bytes
+abbrev pub withTwins : Format
+withTwins = formatOf document01Tones document01Words document01Bytes
+
+pub twins-within : Within withRests withTwins
+twins-within = record { no-longer = omega arith; covered = λ stage code. more-rows (withRests .rows stage) (twinRows stage) code }
+
+pub sizes-within : Within withTwins today
+sizes-within = wider (omega arith) (omega arith) (omega arith)

@@ -1,5 +1,5 @@
--- Laws of the command at a place: `one-row`, `some-late`, `added-late`, `none-late`, `row-found`, the row that a command byte finds; `command-too-long`, `command-at`,
--- `no-row`, `row-there`, `row-cut`, `row-whole`, the command there.
+-- Laws of the command at a place: `one-row`, `some-late`, `added-late`, `twin-late`, `added-twin-late`, `none-late`, `row-found`, the row that a
+-- command byte finds; `command-too-long`, `command-at`, `no-row`, `row-there`, `row-cut`, `row-whole`, the command there.
 -- Assumes nothing.
 use mathlib.Core.Path.{_≡_, refl, sym, ap, _∙_}
 use mathlib.Core.Bool.{Bool, true, false, cond, true≢false}
@@ -53,7 +53,7 @@ found-today P each stage code = found P code (today .rows stage) (part stage)
 
 -- after the first three commands the others are allowed
 abbrev lateRows : List Row
-lateRows = pair ∷ single ∷ silenceRow ∷ end ∷ levels ∷ ratio ∷ rest ∷ []
+lateRows = pair 1 ∷ single 1 ∷ silenceRow ∷ end ∷ levels 1 ∷ ratio 1 ∷ rest 1 ∷ pair 2 ∷ single 2 ∷ levels 2 ∷ ratio 2 ∷ rest 2 ∷ []
 
 rows-late : (stage : ℕ) → 3 ≤ stage → today .rows stage ≡ lateRows
 rows-late zero l = absurd (omega arith)
@@ -67,7 +67,7 @@ one-row true r = refl
 one-row false r = refl
 
 module _ (stage code : ℕ) (late : 3 ≤ stage) where
-  -- their bytes are 4 to 7 and 9 to 11
+  -- their bytes are 4 to 7 and 9 to 11, and those of the twins
   pub some-late : 4 ≤ code → code ≤ 7 → isRow (withCode (today .rows stage) code) ≡ true
   some-late low high = rw (rows-late stage late) (by (ℕ-discrete code 4) (ℕ-discrete code 5) (ℕ-discrete code 6))
     where
@@ -85,9 +85,25 @@ module _ (stage code : ℕ) (late : 3 ≤ stage) where
       by (no p) (yes e) = rw e
       by (no p) (no q) = let e : code ≡ 11 = omega arith in rw e
 
+  pub twin-late : 20 ≤ code → code ≤ 21 → isRow (withCode (today .rows stage) code) ≡ true
+  twin-late low high = rw (rows-late stage late) (by (ℕ-discrete code 20))
+    where
+      by : Dec (code ≡ 20) → isRow (withCode lateRows code) ≡ true
+      by (yes e) = rw e
+      by (no p) = let e : code ≡ 21 = omega arith in rw e
+
+  pub added-twin-late : 25 ≤ code → code ≤ 27 → isRow (withCode (today .rows stage) code) ≡ true
+  added-twin-late low high = rw (rows-late stage late) (by (ℕ-discrete code 25) (ℕ-discrete code 26))
+    where
+      by : Dec (code ≡ 25) → Dec (code ≡ 26) → isRow (withCode lateRows code) ≡ true
+      by (yes e) q = rw e
+      by (no p) (yes e) = rw e
+      by (no p) (no q) = let e : code ≡ 27 = omega arith in rw e
+
   -- and no other
-  pub none-late : (4 ≤ code → code ≤ 7 → ⊥) → (9 ≤ code → code ≤ 11 → ⊥) → isRow (withCode (today .rows stage) code) ≡ false
-  none-late p q =
+  pub none-late : (4 ≤ code → code ≤ 7 → ⊥) → (9 ≤ code → code ≤ 11 → ⊥) → (20 ≤ code → code ≤ 21 → ⊥) → (25 ≤ code → code ≤ 27 → ⊥)
+      → isRow (withCode (today .rows stage) code) ≡ false
+  none-late p q r z =
       rw (
         rows-late stage late,
         ne-eqb code 4 (λ e. p (omega arith) (omega arith)),
@@ -97,6 +113,11 @@ module _ (stage code : ℕ) (late : 3 ≤ stage) where
         ne-eqb code 9 (λ e. q (omega arith) (omega arith)),
         ne-eqb code 10 (λ e. q (omega arith) (omega arith)),
         ne-eqb code 11 (λ e. q (omega arith) (omega arith)),
+        ne-eqb code 20 (λ e. r (omega arith) (omega arith)),
+        ne-eqb code 21 (λ e. r (omega arith) (omega arith)),
+        ne-eqb code 25 (λ e. z (omega arith) (omega arith)),
+        ne-eqb code 26 (λ e. z (omega arith) (omega arith)),
+        ne-eqb code 27 (λ e. z (omega arith) (omega arith)),
       )
 
 -- a byte that finds a row finds its own
@@ -105,7 +126,7 @@ none-found none e = refl
 none-found (some r) e = absurd (true≢false e)
 
 pub row-found : (stage code : ℕ) → isRow (withCode (today .rows stage) code) ≡ true → withCode (today .rows stage) code ≡ some (rowOf code)
-row-found stage code h = by (withCode (today .rows stage) code) (found-today Own (search needs depth 12) stage code) h
+row-found stage code h = by (withCode (today .rows stage) code) (found-today Own (search needs depth 17) stage code) h
   where
     Own : Row → Type 0
     Own r = rowOf (r .code) ≡ r

@@ -4,14 +4,14 @@ use mathlib.Core.Bool.{true, false}
 use mathlib.Core.List.{List, [], _∷_}
 use mathlib.Core.Logic.{inl, inr}
 use mathlib.Core.Path.{_≡_, refl}
-use Prim.Native.Nat.{ℕ, zero, suc, _+_, _≤_, _<_}
+use Prim.Native.Nat.{ℕ, zero, suc, _+_, _-_, _≤_, _<_}
 use native.Mathlib.Nat.{add-assoc}
 use native.Mathlib.Omega.{arith}
 use borrow.Author.Needs.{needs}
 use borrow.Author.Tests.{leb-false, ltb-false}
 use lib.Dec.{leb}
 use lib.ListN.{length, getD}
-use Rattle.sizes.specs.Sizes.{mostWords, longestSheet, restCommand}
+use Rattle.sizes.specs.Sizes.{mostWords, longestSheet}
 use Rattle.lists.proofs.Tests.{by-test}
 use Rattle.bigendian.specs.Number.{number}
 use Rattle.bigendian.proofs.Numbers.{number-one}
@@ -23,9 +23,9 @@ use Rattle.rows.specs.declared.Command.{Command}
 use Rattle.rows.specs.declared.Command.the-variants.{End, Refused, Head, Describe, Rest, Silence}
 use Rattle.rows.specs.declared.Decoded.{Decoded}
 use Rattle.rows.specs.Rows.{Known, Operand, takesRest, isRestOf, Row, rest, describing, numbers, levelOperands, ratioOperands, width}
-use Rattle.places.specs.Places.{addressed}
+use Rattle.addresses.specs.Addresses.{codeOf, numberWidth, addressed, carriedAt}
 use Rattle.command.specs.Format.{today, isTooLong, commandAt}
-use Rattle.rows.specs.Codes.{ToneCode, commandBytes, silenceRow}
+use Rattle.rows.specs.Codes.{ToneCode, RestCode, commandBytes, silenceRow}
 use Rattle.command.proofs.Walk.{Each, first-value, passes, takes, in-within, Does, by-rows}
 
 -- its bytes are there, in a sheet that is not too long
@@ -53,14 +53,14 @@ pub record DescribesTone (h : Header) (known : Known) (s : List ℕ) (at stage n
 pub record RestsTone (h : Header) (known : Known) (s : List ℕ) (at stage next i : ℕ) : Type 0 where
   pub there : There (length s) at next
   pub late : 3 ≤ stage
-  pub code : getD s at 0 ≡ 0x0b
-  pub whole : at + restCommand ≤ length s
+  pub code : RestCode (getD s at 0)
+  pub whole : at + commandBytes (getD s at 0) ≤ length s
   pub tone : i ≡ addressed s at
   pub of-line : i < h .size
   pub takes-one : takesRest known ≡ true
-  pub fits : isRestOf (parts (h .gap)) (known .entry) (number s (at + 2) 4) ≡ true
+  pub fits : isRestOf (parts (h .gap)) (known .entry) (number s (carriedAt s at) 4) ≡ true
 
--- a word is one of the eight, and its map names tones of the line
+-- a word is one that a sheet may have, and its map names tones of the line
 pub record Silences (h : Header) (s : List ℕ) (at stage next word map : ℕ) : Type 0 where
   pub there : There (length s) at next
   pub late : 3 ≤ stage
@@ -101,24 +101,30 @@ module _ (h : Header) (known : Known) (s : List ℕ) (at : ℕ) (short : length 
   there : (w : ℕ) → at + 1 + w ≤ length s → There (length s) at (at + 1 + w)
   there w whole = record { onward = omega arith; inside = whole; short = short }
 
-  tone-said : (stage code : ℕ) (os : List Operand) → 3 ≤ stage → ToneCode code → commandBytes code ≡ 1 + width (describing code os .operands)
-      → Does (SaidOf h known s at stage) h known s at (describing code os)
-  tone-said stage code os late which bytes own whole p =
-      let v = passes (leb (h .size) (number s (at + 1) 1)) _ _ (p .0) in
-      rw (first-value (number s (at + 1) 1) [] s (at + 1 + 1) os)
+  -- a byte's row has the tone number of its width
+  module _ {code w : ℕ} (own : getD s at 0 ≡ code) (wide : numberWidth code ≡ w) where
+    tone-is : number s (at + 1) w ≡ addressed s at
+    tone-is = rw (own, wide)
+
+  tone-said : (stage w short : ℕ) (os : List Operand) → 3 ≤ stage → ToneCode (codeOf w short) → numberWidth (codeOf w short) ≡ w
+      → commandBytes (codeOf w short) ≡ 1 + width (describing w short os .operands)
+      → Does (SaidOf h known s at stage) h known s at (describing w short os)
+  tone-said stage w short os late which wide bytes own whole p =
+      let v = passes (leb (h .size) (number s (at + 1) w)) _ _ (p .0) in
+      rw (first-value (number s (at + 1) w) [] s (at + 1 + w) os)
       record {
-        there = there (1 + width os) whole;
+        there = there (w + width os) whole;
         late = late;
         code = rw own which;
         whole = rw own (omega (arith, bytes));
-        tone = number-one s (at + 1);
+        tone = tone-is own wide;
         of-line = leb-false _ _ (v .0);
         new = passes (isDescribed (known .entry)) _ _ (v .1) .0;
       }
 
   silence-said : (stage : ℕ) → 3 ≤ stage → Does (SaidOf h known s at stage) h known s at silenceRow
   silence-said stage late own whole p =
-      let v = in-within (number s (at + 1) 1) 0 7 _ _ (p .0) in
+      let v = in-within (number s (at + 1) 1) 0 (mostWords - 1) _ _ (p .0) in
       record {
         there = there 5 whole;
         late = late;
@@ -128,18 +134,19 @@ module _ (h : Header) (known : Known) (s : List ℕ) (at : ℕ) (short : length 
         of-line = passes (namesBeyond (h .size) (number s (at + 1) 1) (number s (at + 1 + 1) 4)) _ _ (p .1 .0) .0;
       }
 
-  rest-said : (stage : ℕ) → 3 ≤ stage → Does (SaidOf h known s at stage) h known s at rest
-  rest-said stage late own whole p =
-      let v = passes (leb (h .size) (number s (at + 1) 1)) _ _ (p .0) in
+  rest-said : (stage w : ℕ) → 3 ≤ stage → RestCode (rest w .code) → numberWidth (rest w .code) ≡ w → commandBytes (rest w .code) ≡ 1 + width (rest w .operands)
+      → Does (SaidOf h known s at stage) h known s at (rest w)
+  rest-said stage w late which wide bytes own whole p =
+      let v = passes (leb (h .size) (number s (at + 1) w)) _ _ (p .0) in
       record {
-        there = there 5 whole;
+        there = there (w + 4) whole;
         late = late;
-        code = own;
-        whole = omega arith;
-        tone = number-one s (at + 1);
+        code = rw own which;
+        whole = rw own (omega (arith, bytes));
+        tone = tone-is own wide;
         of-line = leb-false _ _ (v .0);
         takes-one = takes (takesRest known) _ _ (v .1) .0;
-        fits = rw add-assoc at (takes (isRestOf (parts (h .gap)) (known .entry) (number s (at + 1 + 1) 4)) _ _ (p .1 .0) .0);
+        fits = rw (own, wide) (takes (isRestOf (parts (h .gap)) (known .entry) (number s (at + 1 + w) 4)) _ _ (p .1 .0) .0);
       }
 
   -- such rows stand among the first three commands
@@ -162,16 +169,31 @@ module _ (h : Header) (known : Known) (s : List ℕ) (at : ℕ) (short : length 
   all-said (suc (suc zero)) = heads-said 2 (omega arith) (today .rows 2) (search needs)
   all-said (suc (suc (suc n))) =
       let late : 3 ≤ suc (suc (suc n)) = omega arith in (
-        tone-said _ 4 (numbers false) late (inl (inl refl)) refl,
+        tone-said _ 1 4 (numbers false) late (inl (inl refl)) refl refl,
         (
-          tone-said _ 5 (numbers true) late (inl (inr refl)) refl,
+          tone-said _ 1 5 (numbers true) late (inl (inr refl)) refl refl,
           (
             silence-said _ late,
             (
               λ own whole p. record { there = there 0 whole; late = late },
               (
-                tone-said _ 9 levelOperands late (inr (inl refl)) refl,
-                (tone-said _ 10 ratioOperands late (inr (inr refl)) refl, (rest-said _ late, tt)),
+                tone-said _ 1 9 levelOperands late (inr (inl refl)) refl refl,
+                (
+                  tone-said _ 1 10 ratioOperands late (inr (inr refl)) refl refl,
+                  (
+                    rest-said _ 1 late refl refl refl,
+                    (
+                      tone-said _ 2 4 (numbers false) late (inl (inl refl)) refl refl,
+                      (
+                        tone-said _ 2 5 (numbers true) late (inl (inr refl)) refl refl,
+                        (
+                          tone-said _ 2 9 levelOperands late (inr (inl refl)) refl refl,
+                          (tone-said _ 2 10 ratioOperands late (inr (inr refl)) refl refl, (rest-said _ 2 late refl refl refl, tt)),
+                        ),
+                      ),
+                    ),
+                  ),
+                ),
               ),
             ),
           ),

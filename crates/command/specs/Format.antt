@@ -1,5 +1,5 @@
 -- What a format allows, and the command at a place of a sheet. Document 01, 'The line sheet' and 'Why a sheet is turned down'; document 02,
--- W1, W5 and W6.
+-- W1, W5, W6 and W8.
 -- Assumes nothing.
 use mathlib.Core.Bool.{Bool, true, false, cond}
 use mathlib.Core.List.{List, _++_}
@@ -8,13 +8,14 @@ use mathlib.Core.Path.{_≡_}
 use Prim.Native.Nat.{ℕ, _≤_}
 use lib.Dec.{leb, ltb}
 use lib.ListN.{length, getD}
-use Rattle.sizes.specs.Sizes.{mostTones, mostWords, longestSheet}
+use Rattle.sizes.specs.Sizes.{mostTones, mostWords, wordsOf, longestSheet}
+use Rattle.bigendian.specs.Number.{byteBase}
 use Rattle.refusals.specs.declared.Refusal.the-variants.{SheetTooLong, SheetEnds, CommandNotAllowed}
 use Rattle.rows.specs.declared.Header.{Header}
 use Rattle.rows.specs.declared.Command.{Command}
 use Rattle.rows.specs.declared.Command.the-variants.{End, Refused, Head, Describe, Rest, Silence}
 use Rattle.rows.specs.declared.Decoded.{Decoded}
-use Rattle.rows.specs.Rows.{Known, Row, width, firstRows, tenthsRows, readingRows, rowsOf, withCode, rowAt, wholeRow}
+use Rattle.rows.specs.Rows.{Known, Row, width, firstRows, tenthsRows, readingRows, restRows, rowsOf, withCode, rowAt, wholeRow}
 
 -- The most tones, the silence words, the longest sheet, and the commands allowed after so many of the first three.
 pub record Format : Type 0 where
@@ -27,27 +28,35 @@ pub record Format : Type 0 where
 abbrev pub formatOf : (tones words bytes : ℕ) → Format
 formatOf tones words bytes = record { tones = tones; words = words; bytes = bytes; rows = rowsOf tones words }
 
+-- document 01's sizes: 'N tones, 1 to 256', as many as a byte can number; 'word 1 (0 to 7)', the words that those take; 'at most 4,096 bytes'
+abbrev pub document01Tones : ℕ
+document01Tones = byteBase
+
+abbrev pub document01Words : ℕ
+document01Words = wordsOf document01Tones
+
+abbrev pub document01Bytes : ℕ
+document01Bytes = 4096
+
+-- commands with those sizes
+abbrev pub smallFormat : ((tones words stage : ℕ) → List Row) → Format
+smallFormat rows = record { tones = document01Tones; words = document01Words; bytes = document01Bytes; rows = rows document01Tones document01Words }
+
 -- document 01's own format, with none of the requests' commands
 abbrev pub document01 : Format
-document01 = record { tones = mostTones; words = mostWords; bytes = longestSheet; rows = firstRows mostTones mostWords }
+document01 = smallFormat firstRows
 
 -- the one before W5, with the gap in tenths
 abbrev pub withTenths : Format
-withTenths = record {
-  tones = mostTones;
-  words = mostWords;
-  bytes = longestSheet;
-  rows = λ stage. firstRows mostTones mostWords stage ++ tenthsRows stage;
-}
+withTenths = smallFormat (λ tones words stage. firstRows tones words stage ++ tenthsRows stage)
 
 -- the one before W6, with readings of the line analyser
 abbrev pub withReadings : Format
-withReadings = record {
-  tones = mostTones;
-  words = mostWords;
-  bytes = longestSheet;
-  rows = λ stage. (firstRows mostTones mostWords stage ++ tenthsRows stage) ++ readingRows stage;
-}
+withReadings = smallFormat (λ tones words stage. (firstRows tones words stage ++ tenthsRows stage) ++ readingRows stage)
+
+-- the one before W8, with rests
+abbrev pub withRests : Format
+withRests = smallFormat (λ tones words stage. ((firstRows tones words stage ++ tenthsRows stage) ++ readingRows stage) ++ restRows stage)
 
 -- the format that is read
 abbrev pub today : Format
@@ -58,7 +67,7 @@ abbrev pub isRow : Option Row → Bool
 isRow none = false
 isRow (some r) = true
 
--- refusal 1: 'The sheet has more than 4,096 bytes'
+-- refusal 1: 'The sheet has more than 4,096 bytes'; W8: 'A sheet may be 32,768 bytes, which amends refusal 1'
 abbrev pub isTooLong : Format → List ℕ → Bool
 isTooLong F s = ltb (F .bytes) (length s)
 

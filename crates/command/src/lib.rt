@@ -1,4 +1,4 @@
-// The command at a place of a line sheet: document 01, 'The line sheet' and 'Why a sheet is turned down', and document 02, W1, W5 and W6.
+// The command at a place of a line sheet: document 01, 'The line sheet' and 'Why a sheet is turned down', and document 02, W1, W5, W6 and W8.
 ghost use mathlib.Core.Path.{_≡_};
 ghost use Prim.Native.Nat.{_+_, _≤_};
 ghost use lib.ListN.{length};
@@ -8,7 +8,7 @@ ghost use Rattle.gaps.specs.Gap.{parts};
 ghost use Rattle.line.specs.Line.{EntryInRange};
 ghost use Rattle.places.specs.Places.{entryAt};
 ghost use Rattle.rows.specs.Rows.{Known, rowAt, wholeRow, withCode};
-ghost use Rattle.rows.specs.Codes.{knownAt, ToneCode, rowOf, commandBytes};
+ghost use Rattle.rows.specs.Codes.{knownAt, ToneCode, RestCode, rowOf, commandBytes};
 ghost use Rattle.command.specs.Format.{isRow, today, commandAt};
 use refusals::Refusal;
 use rows::Command;
@@ -30,7 +30,7 @@ fn is_allowed(stage: u8, code: u8) -> bool
         return code == 3;
     }
     match code {
-        4..=7 | 9..=11 => true,
+        4..=7 | 9..=11 | 20..=21 | 25..=27 => true,
         _ => false,
     }
 }
@@ -38,7 +38,7 @@ fn is_allowed(stage: u8, code: u8) -> bool
 // What a command does that addresses no tone, all of whose bytes are there.
 fn line_operands(s: &[u8], at: usize, code: u8, header: Header) -> Command
     requires { ⌜ (ToneCode code → ⊥) ⌝ }
-    requires { ⌜ (code ≡ 11 → ⊥) ⌝ }
+    requires { ⌜ (RestCode code → ⊥) ⌝ }
     requires { ⌜ at + commandBytes code ≤ length (now s) ⌝ }
     requires { ⌜ length (now s) ≤ longestSheet ⌝ }
     ensures { λ r. ⌜ ((known : Known) → r ≡ rowAt header known (before s) at (rowOf code)) ⌝ }
@@ -58,9 +58,10 @@ fn operands(s: &[u8], at: usize, code: u8, header: Header, place: u16, rested: u
     requires { ⌜ EntryInRange (parts (header .gap)) (entryAt (now s) place rested) ⌝ }
     ensures { λ r. ⌜ r ≡ rowAt header (knownAt (before s) place rested) (before s) at (rowOf code) ⌝ }
 {
-    match code {
+    let short = addresses::short_of(code);
+    match short {
         4 | 5 | 9 | 10 => tonerows::tone_command(s, at, code, header, place),
-        11 => tonerows::rest_command(s, at, header, place, rested),
+        11 => tonerows::rest_command(s, at, code, header, place, rested),
         _ => line_operands(s, at, code, header),
     }
 }

@@ -71,7 +71,7 @@ fn put_limits(
     let parts = gaps::parts(gap);
     let mut i: usize = 0;
     while i < header.size as usize {
-        let tone = i as u8;
+        let tone = i as u16;
         let silenced = silence::is_silenced(maps, tone);
         let steps = arrays::steps_at(s, parts, places[i], rests[i], silenced);
         let limit = steps.limit;

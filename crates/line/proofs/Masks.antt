@@ -36,7 +36,7 @@ module _ (l : Line) (I : LineInRange l) where
       le-trans (within-mask (gapOf l) (entryOf l i) (silenced (l .maps) i) b (I .entries i il) h)
       (mask-high (gapOf l) (entryOf l i) (I .entries i il))
 
-  -- no limit is above 15 bits, so the limits add up to at most 256 × 15
+  -- no limit is above 15 bits, so the limits add up to at most 15 for each of the most tones
   pub limits-high : sumOfLimits (tones l) ≤ mostBitsOfAll
   limits-high =
       omega (arith, I .size-high, sum-at-most (l .size) 15 (tones l .limit) (λ i il. limit-high (gapOf l) (entryOf l i) (silenced (l .maps) i) (I .entries i il)))

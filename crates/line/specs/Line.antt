@@ -101,7 +101,7 @@ abbrev pub EntryInRange : (g : ℕ) → Entry → Type 0
 EntryInRange g undescribed = Unit {0}
 EntryInRange g (described t r) = InRange g t × RestInRange g t r
 
--- the ranges of a line: N from 1 to 256, the gap in its unit's range, the budget from 0 to 2^47, and those of each tone
+-- the ranges of a line: N from 1 to the most tones, the gap in its unit's range, the budget from 0 to 2^47, and those of each tone
 pub record LineInRange (l : Line) : Type 0 where
   pub size-low : 1 ≤ l .size
   pub size-high : l .size ≤ mostTones

@@ -22,7 +22,7 @@ ruleOf Refit = rule.refitStep
 abbrev pub stepAt : ℕ → Step
 stepAt at = record { tone = at % rankBase; size = at / rankBase }
 
--- There are at most 256 tones, and below the limits no step is 0, or 2^39 or more.
+-- There are no more than the most tones, and below the limits no step is 0, or 2^39 or more.
 pub record Small (T : Tones) : Type 0 where
   pub count-high : T .count ≤ mostTones
   pub size-low : (i b : ℕ) → i < T .count → b < T .limit i → 0 < step T i b

@@ -2,7 +2,7 @@
 -- Assumes nothing.
 use mathlib.Core.Bool.{Bool, true, false, cond}
 use mathlib.Core.List.{List}
-use mathlib.Core.Path.{_≡_, refl}
+use mathlib.Core.Path.{_≡_, refl, sym}
 use Prim.Native.Nat.{ℕ}
 use borrow.Author.Tests.{ne-eqb}
 use lib.Dec.{eqb}
@@ -14,6 +14,7 @@ use Rattle.line.specs.declared.Kind.the-variants.{Pair, Single, Read}
 use Rattle.line.specs.declared.Tone.{Tone}
 use Rattle.line.specs.Tone.{kindOf, wholeCost, kindCost, NumbersInRange, InRange, isBelow, isRest}
 use Rattle.line.proofs.Costs.{reading-granted}
+use Rattle.addresses.specs.Addresses.{shortOf, carriedAt}
 use Rattle.places.specs.Places.{numbersAt, levelsAt, ratioAt, toneAt}
 
 -- a tone with a reading
@@ -33,17 +34,20 @@ module _ (g rest : ℕ) (n : Numbers) where
   numbers-there true I = I .kind
   numbers-there false I = I .kind
 
--- the tone at a place, by its command's byte
-module _ (s : List ℕ) (place : ℕ) where
-  pub levels-there : getD s place 0 ≡ 9 → toneAt s place ≡ record { kind = Read (levelsAt s place) }
-  levels-there e = rw e
+-- the tone at a place, by its short command's byte
+module _ (s : List ℕ) (place : ℕ) {short : ℕ} (is : short ≡ shortOf (getD s place 0)) where
+  pub levels-there : short ≡ 9 → toneAt s place ≡ record { kind = Read (levelsAt s (carriedAt s place)) }
+  levels-there e = rw (sym is, e)
 
-  pub ratio-there : getD s place 0 ≡ 10 → toneAt s place ≡ record { kind = Read (ratioAt s place) }
-  ratio-there e = rw e
+  pub ratio-there : short ≡ 10 → toneAt s place ≡ record { kind = Read (ratioAt s (carriedAt s place)) }
+  ratio-there e = rw (sym is, e)
 
-  pub tone-there : (getD s place 0 ≡ 9 → ⊥) → (getD s place 0 ≡ 10 → ⊥) → toneAt s place ≡ record { kind = kindOf (eqb (getD s place 0) 5) (numbersAt s place) }
-  tone-there p q = rw (ne-eqb (getD s place 0) 9 p, ne-eqb (getD s place 0) 10 q) (by (eqb (getD s place 0) 5))
+  pub tone-there : (short ≡ 9 → ⊥) → (short ≡ 10 → ⊥) → toneAt s place ≡ record { kind = kindOf (eqb short 5) (numbersAt s (carriedAt s place)) }
+  tone-there p q = rw (sym is, ne-eqb short 9 p, ne-eqb short 10 q) (by (eqb short 5))
     where
-      by : (single : Bool) → _≡_ {A = Tone} (record { kind = cond single (Single (numbersAt s place)) (Pair (numbersAt s place)) }) (record { kind = kindOf single (numbersAt s place) })
+      n : Numbers
+      n = numbersAt s (carriedAt s place)
+
+      by : (single : Bool) → _≡_ {A = Tone} (record { kind = cond single (Single n) (Pair n) }) (record { kind = kindOf single n })
       by true = refl
       by false = refl

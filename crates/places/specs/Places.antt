@@ -1,4 +1,4 @@
--- What the command at a place of a sheet carries: the tone that it addresses, the tone that it describes, and the rest that it gives.
+-- What the command at a place of a sheet carries after its tone's number: the tone that it describes, or the rest that it gives.
 -- Assumes nothing.
 use mathlib.Core.Bool.{cond}
 use mathlib.Core.List.{List}
@@ -16,48 +16,40 @@ use Rattle.line.specs.declared.Kind.{Kind}
 use Rattle.line.specs.declared.Kind.the-variants.{Pair, Single, Read}
 use Rattle.line.specs.declared.Tone.{Tone}
 use Rattle.line.specs.Line.{Entry, undescribed, described}
+use Rattle.addresses.specs.Addresses.{shortOf, carriedAt}
 
--- The tone that the command at a place addresses, if it addresses one: the byte after the command's own.
-abbrev pub addressed : List ℕ → (at : ℕ) → ℕ
-addressed s at = getD s (at + 1) 0
-
--- 'tone 1, noise 2, gain 2, cap 1, mask 8', after the command's byte; what is not there reads as 0
-abbrev pub numbersAt : List ℕ → (place : ℕ) → Numbers
-numbersAt s place =
-    record { noise = numberAt s (place + 2) 2; gain = numberAt s (place + 4) 2; cap = getD s (place + 6) 0; mask = numberAt s (place + 7) 8 }
+-- 'noise 2, gain 2, cap 1, mask 8', from a place on; what is not there reads as 0
+abbrev pub numbersAt : List ℕ → (at : ℕ) → Numbers
+numbersAt s at = record { noise = numberAt s at 2; gain = numberAt s (at + 2) 2; cap = getD s (at + 4) 0; mask = numberAt s (at + 5) 8 }
 
 -- W5, '32-bit IEEE floats', high byte first
 abbrev pub floatAt : List ℕ → (at : ℕ) → Float
 floatAt s at = floatOf (numberAt s at 4)
 
--- W5, 09: 'tone, noise float, gain float, cap, mask'
-abbrev pub bothAt : List ℕ → (place : ℕ) → Levels
-bothAt s place = record { noise = floatAt s (place + 2); gain = floatAt s (place + 6) }
+-- W5, 09: 'noise float, gain float, cap, mask'
+abbrev pub bothAt : List ℕ → (at : ℕ) → Levels
+bothAt s at = record { noise = floatAt s at; gain = floatAt s (at + 4) }
 
-abbrev pub levelsAt : List ℕ → (place : ℕ) → ReadNumbers
-levelsAt s place = record {
-  reading = Both (bothAt s place);
-  cap = getD s (place + 10) 0;
-  mask = numberAt s (place + 11) 8;
-}
+abbrev pub levelsAt : List ℕ → (at : ℕ) → ReadNumbers
+levelsAt s at = record { reading = Both (bothAt s at); cap = getD s (at + 8) 0; mask = numberAt s (at + 9) 8 }
 
--- W5, 0A: 'tone, ratio float, cap, mask'
-abbrev pub ratioAt : List ℕ → (place : ℕ) → ReadNumbers
-ratioAt s place = record { reading = Ratio (floatAt s (place + 2)); cap = getD s (place + 6) 0; mask = numberAt s (place + 7) 8 }
+-- W5, 0A: 'ratio float, cap, mask'
+abbrev pub ratioAt : List ℕ → (at : ℕ) → ReadNumbers
+ratioAt s at = record { reading = Ratio (floatAt s at); cap = getD s (at + 4) 0; mask = numberAt s (at + 5) 8 }
 
--- the tone that the command of a byte describes, every other byte's as a pair tone
-abbrev pub kindAt : (code : ℕ) → List ℕ → (place : ℕ) → Kind
-kindAt code s place =
-    cond (eqb code 0x05) (Single (numbersAt s place))
-    (cond (eqb code 0x09) (Read (levelsAt s place))
-    (cond (eqb code 0x0a) (Read (ratioAt s place)) (Pair (numbersAt s place))))
+-- the tone that the short command of a byte describes with what it carries, every other byte's as a pair tone
+abbrev pub kindAt : (short : ℕ) → List ℕ → (at : ℕ) → Kind
+kindAt short s at =
+    cond (eqb short 0x05) (Single (numbersAt s at))
+    (cond (eqb short 0x09) (Read (levelsAt s at))
+    (cond (eqb short 0x0a) (Read (ratioAt s at)) (Pair (numbersAt s at))))
 
 abbrev pub toneAt : List ℕ → (place : ℕ) → Tone
-toneAt s place = record { kind = kindAt (getD s place 0) s place }
+toneAt s place = record { kind = kindAt (shortOf (getD s place 0)) s (carriedAt s place) }
 
 -- W6, 0B: 'tone and rest, 4 bytes'
 abbrev pub restAt : List ℕ → (place : ℕ) → ℕ
-restAt s place = numberAt s (place + 2) 4
+restAt s place = numberAt s (carriedAt s place) 4
 
 -- the rest whose command stands at a place, 'where none is given' 0: no command after the first three stands at 0
 abbrev pub restFrom : List ℕ → (place : ℕ) → ℕ

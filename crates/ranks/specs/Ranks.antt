@@ -12,9 +12,9 @@ use Rattle.sizes.specs.Sizes.{mostTones}
 use Rattle.steps.specs.Tones.{Tones, step, Table, _!_}
 use Rattle.line.specs.Arrays.{Arrays, limitAt, costAt, doublingsAt, restAt, stepSize}
 
--- the base of a rank: above the number of every tone
+-- the base of a rank, above the number of every tone: the most tones
 abbrev pub rankBase : ℕ
-rankBase = 256
+rankBase = mostTones
 
 -- 'Steps are ordered by size, then by lower tone number': the rank of a step of this size of this tone
 abbrev pub rank : (size tone : ℕ) → ℕ

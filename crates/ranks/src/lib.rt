@@ -9,8 +9,8 @@ ghost use Rattle.line.specs.Arrays.{arrays, arraysBefore, ArraysInRange, Under,
 ghost use Rattle.ranks.specs.Ranks.{freeRank, heldRank, NoneFrom, Ranked};
 use sizes::TONES;
 
-// The base of a rank: above the number of every tone.
-pub const RANK_BASE: u64 = 256;
+// The base of a rank, above the number of every tone: the most tones.
+pub const RANK_BASE: u64 = TONES as u64;
 
 // The size of the step at a number of bits: the power of one bit more, less the power.
 fn step_size(cost: u32, doublings: u8, rest: u32, bits: u8) -> u64

@@ -3,11 +3,11 @@
 -- - `one-operand`, `silence-operands`, `rest-operands`: a command as a chain of tests at the places of its operands;
 -- - `tone-operands`, `number-operands`, `level-operands`, `ratio-operands`, `cap-operands`: the same of a tone's, from one operand on;
 -- - `described-at`, `no-tone-yet`, `has-rest`, `no-rest-yet`, `rest-judged`: whether a tone is described and takes a rest, from its places;
--- - `header-width`, `number-codes`, `tone-row`, `end-row`: the rows by their bytes, as the code finds them.
+-- - `header-width`, `number-codes`, `tone-row`, `rest-row`, `end-row`: the rows by their bytes, as the code finds them.
 -- Assumes nothing.
-use mathlib.Core.Path.{_≡_, refl, sym, _∙_}
+use mathlib.Core.Path.{_≡_, refl, sym, ap, _∙_}
 use mathlib.Core.Bool.{Bool, true, false, cond}
-use mathlib.Core.Logic.{⊎-elim}
+use mathlib.Core.Logic.{inl, inr, ⊎-elim}
 use mathlib.Core.List.{List, [], _∷_}
 use mathlib.Core.Option.{Option, none, some}
 use Prim.Native.Nat.{ℕ, zero, suc, _+_, _-_, _≤_, _<_}
@@ -26,13 +26,15 @@ use Rattle.line.specs.Tone.{mostCap, isRest}
 use Rattle.line.specs.Line.{isDescribed}
 use Rattle.refusals.specs.declared.Refusal.{Refusal}
 use Rattle.refusals.specs.declared.Refusal.the-variants.{OperandOutOfRange, ToneBeyondLine, ToneRepeated, FloatOutOfRange, CostOutOfRange, ToneCannotTake, RestOutOfRange}
+use Rattle.addresses.specs.Addresses.{twin, shortOf}
+use Rattle.addresses.proofs.Widths.{one-of-both}
 use Rattle.places.specs.Places.{toneAt, entryAt}
 use Rattle.places.proofs.Entries.{entry-there}
 use Rattle.rows.specs.declared.Header.{Header}
 use Rattle.rows.specs.declared.Command.{Command}
 use Rattle.rows.specs.declared.Command.the-variants.{Describe, Rest, Silence, Refused}
-use Rattle.rows.specs.Rows.{Known, takesRest, isRestOf, within, rest, capAndMask, numbers, levelsOf, ratioOf, levelOperands, ratioOperands, end, width, judged, describesFrom, rowAt}
-use Rattle.rows.specs.Codes.{knownAt, silenceRow, ToneCode, toneOperands, toneRow, orEnd, rowOf}
+use Rattle.rows.specs.Rows.{Known, Operand, takesRest, isRestOf, within, rest, describing, capAndMask, numbers, levelsOf, ratioOf, levelOperands, ratioOperands, end, width, judged, describesFrom, rowAt}
+use Rattle.rows.specs.Codes.{knownAt, silenceRow, ToneCode, RestCode, toneOperands, toneRow, restRow, orEnd, rowOf}
 
 -- ---- operands
 
@@ -81,51 +83,51 @@ unfolding rowAt ranged
 silence-operands h known s at = simp (judged-cond, number-one, add-assoc)
 
 -- the rest command
-pub rest-operands : (h : Header) (known : Known) (s : List ℕ) (at : ℕ)
-    → rowAt h known s at rest
-    ≡ cond (leb (h .size) (getD s (at + 1) 0)) (Refused (ToneBeyondLine (at + 1)))
+pub rest-operands : (h : Header) (known : Known) (s : List ℕ) (at w : ℕ) → (let i = number s (at + 1) w in let value = number s (at + 1 + w) 4 in
+    rowAt h known s at (rest w)
+    ≡ cond (leb (h .size) i) (Refused (ToneBeyondLine (at + 1)))
     (cond (takesRest known)
-    (cond (isRestOf (parts (h .gap)) (known .entry) (number s (at + 2) 4)) (Rest (getD s (at + 1) 0)) (Refused (RestOutOfRange (at + 2))))
-    (Refused (ToneCannotTake (at + 1))))
+    (cond (isRestOf (parts (h .gap)) (known .entry) value) (Rest i) (Refused (RestOutOfRange (at + 1 + w))))
+    (Refused (ToneCannotTake (at + 1)))))
 unfolding rowAt
-rest-operands h known s at = simp (judged-cond, number-one, add-assoc)
+rest-operands h known s at w = simp judged-cond
 
 -- a command that describes a tone, and then from one operand on
-pub tone-operands : (h : Header) (known : Known) (s : List ℕ) (at code : ℕ)
-    → rowAt h known s at (toneRow code)
-    ≡ cond (leb (h .size) (getD s (at + 1) 0)) (Refused (ToneBeyondLine (at + 1)))
-    (cond (isDescribed (known .entry)) (Refused (ToneRepeated (at + 1))) (describesFrom h known (getD s (at + 1) 0 ∷ []) s (at + 2) (toneOperands code)))
+pub tone-operands : (h : Header) (known : Known) (s : List ℕ) (at w short : ℕ) (os : List Operand) → (let i = number s (at + 1) w in
+    rowAt h known s at (describing w short os)
+    ≡ cond (leb (h .size) i) (Refused (ToneBeyondLine (at + 1)))
+    (cond (isDescribed (known .entry)) (Refused (ToneRepeated (at + 1))) (describesFrom h known (i ∷ []) s (at + 1 + w) os)))
 unfolding rowAt
-tone-operands h known s at code = simp (judged-cond, number-one, add-assoc)
+tone-operands h known s at w short os = simp judged-cond
 
 module _ (h : Header) (known : Known) (s : List ℕ) (at i : ℕ) where
-  pub number-operands : (isSingle : Bool) → (let noise = number s (at + 2) 2 in let gain = number s (at + 4) 2 in
-      describesFrom h known (i ∷ []) s (at + 2) (numbers isSingle)
-      ≡ ranged noise 1 65535 (at + 2)
-      (ranged gain 1 65535 (at + 4) (describesFrom h known (i ∷ noise ∷ gain ∷ []) s (at + 6) (capAndMask (mostCap isSingle)))))
+  pub number-operands : (isSingle : Bool) → (let noise = number s at 2 in let gain = number s (at + 2) 2 in
+      describesFrom h known (i ∷ []) s at (numbers isSingle)
+      ≡ ranged noise 1 65535 at
+      (ranged gain 1 65535 (at + 2) (describesFrom h known (i ∷ noise ∷ gain ∷ []) s (at + 4) (capAndMask (mostCap isSingle)))))
   unfolding ranged
   number-operands isSingle = simp (judged-cond, add-assoc)
 
-  pub level-operands : (let noise = number s (at + 2) 4 in let gain = number s (at + 6) 4 in
-      describesFrom h known (i ∷ []) s (at + 2) levelOperands
+  pub level-operands : (let noise = number s at 4 in let gain = number s (at + 4) 4 in
+      describesFrom h known (i ∷ []) s at levelOperands
       ≡ cond (isUsable noise)
       (cond (isUsable gain)
-      (cond (isOver (parts (h .gap)) (levelsOf (i ∷ noise ∷ gain ∷ []))) (Refused (CostOutOfRange (at + 2)))
-      (describesFrom h known (i ∷ noise ∷ gain ∷ []) s (at + 10) (capAndMask pairCap)))
-      (Refused (FloatOutOfRange (at + 6))))
-      (Refused (FloatOutOfRange (at + 2))))
+      (cond (isOver (parts (h .gap)) (levelsOf (i ∷ noise ∷ gain ∷ []))) (Refused (CostOutOfRange at))
+      (describesFrom h known (i ∷ noise ∷ gain ∷ []) s (at + 8) (capAndMask pairCap)))
+      (Refused (FloatOutOfRange (at + 4))))
+      (Refused (FloatOutOfRange at)))
   level-operands =
-      let back : at + 6 - 4 ≡ at + 2 = omega arith in
+      let back : at + 4 - 4 ≡ at = omega arith in
       simp (judged-cond, add-assoc, back)
 
-  pub ratio-operands : (let bits = number s (at + 2) 4 in
-      describesFrom h known (i ∷ []) s (at + 2) ratioOperands
+  pub ratio-operands : (let bits = number s at 4 in
+      describesFrom h known (i ∷ []) s at ratioOperands
       ≡ cond (isUsable bits)
-      (cond (isOver (parts (h .gap)) (ratioOf (i ∷ bits ∷ []))) (Refused (CostOutOfRange (at + 2)))
-      (describesFrom h known (i ∷ bits ∷ []) s (at + 6) (capAndMask pairCap)))
-      (Refused (FloatOutOfRange (at + 2))))
+      (cond (isOver (parts (h .gap)) (ratioOf (i ∷ bits ∷ []))) (Refused (CostOutOfRange at))
+      (describesFrom h known (i ∷ bits ∷ []) s (at + 4) (capAndMask pairCap)))
+      (Refused (FloatOutOfRange at)))
   ratio-operands =
-      let back : at + 2 - 0 ≡ at + 2 = omega arith in
+      let back : at - 0 ≡ at = omega arith in
       simp (judged-cond, add-assoc, back)
 
   pub cap-operands : (values : List ℕ) (most : ℕ)
@@ -163,25 +165,48 @@ header-width (suc zero) l h = refl
 header-width (suc (suc zero)) l h = refl
 header-width (suc (suc (suc n))) l h = absurd (omega arith)
 
--- a byte that describes a tone, other than 9 and 10, has noise and gain as whole numbers
-pub number-codes : (code : ℕ) → (code ≡ 9 → ⊥) → (code ≡ 10 → ⊥) → toneOperands code ≡ numbers (eqb code 5)
-number-codes code p q = rw (ne-eqb code 9 p, ne-eqb code 10 q) (by (eqb code 5))
+-- a short command that describes a tone, other than 9 and 10, has noise and gain as whole numbers
+pub number-codes : (short : ℕ) → (short ≡ 9 → ⊥) → (short ≡ 10 → ⊥) → toneOperands short ≡ numbers (eqb short 5)
+number-codes short p q = rw (ne-eqb short 9 p, ne-eqb short 10 q) (by (eqb short 5))
   where
     by : (t : Bool) → cond t (numbers true) (numbers false) ≡ numbers t
     by true = refl
     by false = refl
 
--- the rows of the bytes that describe a tone
-pub tone-row : (code : ℕ) → ToneCode code → toneRow code ≡ rowOf code
-tone-row code = ⊎-elim (⊎-elim (λ e. rw e) (λ e. rw e)) (⊎-elim (λ e. rw e) (λ e. rw e))
+-- the rows of the bytes that describe a tone or give a rest, short or a twin's
+module _ (code : ℕ) where
+  pub tone-row : ToneCode code → toneRow code ≡ rowOf code
+  tone-row = ⊎-elim (⊎-elim (of 4 refl refl) (of 5 refl refl)) (⊎-elim (of 9 refl refl) (of 10 refl refl))
+    where
+      of : (short : ℕ) → toneRow short ≡ rowOf short → toneRow (short + twin) ≡ rowOf (short + twin) → shortOf code ≡ short → toneRow code ≡ rowOf code
+      of short one two e = ⊎-elim (λ f. rw f one) (λ f. rw f two) (one-of-both code short e)
+
+  pub rest-row : RestCode code → restRow code ≡ rowOf code
+  rest-row e = ⊎-elim (λ f. rw f) (λ f. rw f) (one-of-both code 11 e)
 
 -- 7, and every byte that is none of the other commands', is taken for the end
-pub end-row : (code : ℕ) → (code ≡ 1 → ⊥) → (code ≡ 2 → ⊥) → (code ≡ 3 → ⊥) → (code ≡ 4 → ⊥) → (code ≡ 5 → ⊥) → (code ≡ 6 → ⊥) → (code ≡ 8 → ⊥)
-    → (code ≡ 9 → ⊥) → (code ≡ 10 → ⊥) → (code ≡ 11 → ⊥) → rowOf code ≡ end
-end-row code p1 p2 p3 p4 p5 p6 p8 p9 p10 p11 =
-    rw (ne-eqb code 1 p1, ne-eqb code 2 p2, ne-eqb code 8 p8, ne-eqb code 3 p3, ne-eqb code 4 p4, ne-eqb code 5 p5, ne-eqb code 6 p6, ne-eqb code 9 p9, ne-eqb code 10 p10, ne-eqb code 11 p11)
-    (either (eqb code 7))
-  where
-    either : (t : Bool) → orEnd (cond t (some end) none) ≡ end
-    either true = refl
-    either false = refl
+module _ (code : ℕ) (no-tone : ToneCode code → ⊥) (no-rest : RestCode code → ⊥) where
+  pub end-row : (code ≡ 1 → ⊥) → (code ≡ 2 → ⊥) → (code ≡ 3 → ⊥) → (code ≡ 6 → ⊥) → (code ≡ 8 → ⊥) → rowOf code ≡ end
+  end-row p1 p2 p3 p6 p8 =
+      rw (
+        ne-eqb code 1 p1,
+        ne-eqb code 2 p2,
+        ne-eqb code 8 p8,
+        ne-eqb code 3 p3,
+        ne-eqb code 4 (λ e. no-tone (inl (inl (ap shortOf e)))),
+        ne-eqb code 5 (λ e. no-tone (inl (inr (ap shortOf e)))),
+        ne-eqb code 6 p6,
+        ne-eqb code 9 (λ e. no-tone (inr (inl (ap shortOf e)))),
+        ne-eqb code 10 (λ e. no-tone (inr (inr (ap shortOf e)))),
+        ne-eqb code 11 (λ e. no-rest (ap shortOf e)),
+        ne-eqb code 20 (λ e. no-tone (inl (inl (ap shortOf e)))),
+        ne-eqb code 21 (λ e. no-tone (inl (inr (ap shortOf e)))),
+        ne-eqb code 25 (λ e. no-tone (inr (inl (ap shortOf e)))),
+        ne-eqb code 26 (λ e. no-tone (inr (inr (ap shortOf e)))),
+        ne-eqb code 27 (λ e. no-rest (ap shortOf e)),
+      )
+      (either (eqb code 7))
+    where
+      either : (t : Bool) → orEnd (cond t (some end) none) ≡ end
+      either true = refl
+      either false = refl

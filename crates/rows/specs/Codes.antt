@@ -8,8 +8,9 @@ use mathlib.Core.Path.{_≡_}
 use Prim.Native.Nat.{ℕ, _+_}
 use lib.Dec.{ltb, eqb}
 use Rattle.sizes.specs.Sizes.{mostTones, mostWords}
+use Rattle.addresses.specs.Addresses.{numberWidth, shortOf}
 use Rattle.places.specs.Places.{entryAt}
-use Rattle.rows.specs.Rows.{Operand, Known, Row, size, describing, numbers, levelOperands, ratioOperands, silence, end, rowsOf, withCode, width}
+use Rattle.rows.specs.Rows.{Operand, Known, Row, size, describing, numbers, levelOperands, ratioOperands, rest, silence, end, rowsOf, withCode, width}
 
 -- what is known of the tone whose command stands at a place, and whose rest's at another; 0 for none
 abbrev pub knownAt : List ℕ → (place rest : ℕ) → Known
@@ -21,16 +22,27 @@ sizeRow = size mostTones
 abbrev pub silenceRow : Row
 silenceRow = silence mostWords
 
--- the operands after the tone's number of a byte that describes a tone; every other byte has a pair tone's
-abbrev pub toneOperands : (code : ℕ) → List Operand
-toneOperands code = cond (eqb code 0x05) (numbers true) (cond (eqb code 0x09) levelOperands (cond (eqb code 0x0a) ratioOperands (numbers false)))
+-- the operands after the tone's number, by the byte of a short command that describes a tone; every other byte has a pair tone's
+abbrev pub toneOperands : (short : ℕ) → List Operand
+toneOperands short = cond (eqb short 0x05) (numbers true) (cond (eqb short 0x09) levelOperands (cond (eqb short 0x0a) ratioOperands (numbers false)))
 
+-- the rows of a byte that describes a tone, and of one that gives a rest, short or a twin's
 abbrev pub toneRow : (code : ℕ) → Row
-toneRow code = describing code (toneOperands code)
+toneRow code = describing (numberWidth code) (shortOf code) (toneOperands (shortOf code))
 
--- a byte that describes a tone
+abbrev pub restRow : (code : ℕ) → Row
+restRow code = rest (numberWidth code)
+
+-- a byte that describes a tone, by the short command's
+abbrev pub ShortToneCode : (short : ℕ) → Type 0
+ShortToneCode short = ((short ≡ 0x04) ⊎ (short ≡ 0x05)) ⊎ ((short ≡ 0x09) ⊎ (short ≡ 0x0a))
+
 abbrev pub ToneCode : (code : ℕ) → Type 0
-ToneCode code = ((code ≡ 0x04) ⊎ (code ≡ 0x05)) ⊎ ((code ≡ 0x09) ⊎ (code ≡ 0x0a))
+ToneCode code = ShortToneCode (shortOf code)
+
+-- a byte that gives a rest
+abbrev pub RestCode : (code : ℕ) → Type 0
+RestCode code = shortOf code ≡ 0x0b
 
 -- the rows of a stage, and of every stage
 abbrev pub rowsIn : (stage : ℕ) → List Row

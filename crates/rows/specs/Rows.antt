@@ -1,4 +1,4 @@
--- The commands of a sheet, one row for each. Document 01, 'The line sheet' and 'Why a sheet is turned down'; document 02, W1, W5 and W6.
+-- The commands of a sheet, one row for each. Document 01, 'The line sheet' and 'Why a sheet is turned down'; document 02, W1, W5, W6 and W8.
 -- Assumes nothing.
 use mathlib.Core.Bool.{Bool, true, false, not, _&&_, cond}
 use mathlib.Core.List.{List, [], _∷_, _++_}
@@ -16,6 +16,7 @@ use Rattle.readings.specs.declared.Reading.the-variants.{Both, Ratio}
 use Rattle.readings.specs.Reading.{isUsable, floatOf, isOver}
 use Rattle.line.specs.Tone.{mostCap, isRest}
 use Rattle.line.specs.Line.{Entry, undescribed, described, isDescribed}
+use Rattle.addresses.specs.Addresses.{codeOf}
 use Rattle.refusals.specs.declared.Refusal.{Refusal}
 use Rattle.refusals.specs.declared.Refusal.the-variants.{SheetEnds, OperandOutOfRange, ToneBeyondLine, ToneRepeated, FloatOutOfRange, CostOutOfRange, ToneCannotTake, RestOutOfRange}
 use Rattle.rows.specs.declared.Header.{Header}
@@ -144,19 +145,20 @@ tenths = record {
 abbrev pub capAndMask : (most : ℕ) → List Operand
 capAndMask most = within 1 0 most ∷ within 8 0 mostPower ∷ []
 
--- a command that describes a tone: the tone's number, then what the tone carries
-abbrev pub describing : (code : ℕ) → List Operand → Row
-describing code carried = record { code = code; operands = toneNumber 1 ∷ carried; does = λ h v. Describe (getD v 0 0) }
+-- A command that describes a tone: the tone's number, then what the tone carries. W8: with a tone number of two bytes it is the twin, 'its
+-- other operands alike'; so it is of each command below that addresses a tone.
+abbrev pub describing : (width short : ℕ) → List Operand → Row
+describing width short carried = record { code = codeOf width short; operands = toneNumber width ∷ carried; does = λ h v. Describe (getD v 0 0) }
 
 -- 04 pair tone and 05 single tone: 'tone 1, noise 2, gain 2, cap 1, mask 8'
 abbrev pub numbers : (single : Bool) → List Operand
 numbers isSingle = within 2 1 65535 ∷ within 2 1 65535 ∷ capAndMask (mostCap isSingle)
 
-abbrev pub pair : Row
-pair = describing 0x04 (numbers false)
+abbrev pub pair : (width : ℕ) → Row
+pair width = describing width 0x04 (numbers false)
 
-abbrev pub single : Row
-single = describing 0x05 (numbers true)
+abbrev pub single : (width : ℕ) → Row
+single width = describing width 0x05 (numbers true)
 
 -- W5: 'Command 09 carries tone, noise float, gain float, cap, mask; 0A carries tone, ratio float, cap, mask.'
 abbrev pub levelOperands : List Operand
@@ -165,17 +167,17 @@ levelOperands = float ∷ lastFloat 4 levelsOf ∷ capAndMask pairCap
 abbrev pub ratioOperands : List Operand
 ratioOperands = lastFloat 0 ratioOf ∷ capAndMask pairCap
 
-abbrev pub levels : Row
-levels = describing 0x09 levelOperands
+abbrev pub levels : (width : ℕ) → Row
+levels width = describing width 0x09 levelOperands
 
-abbrev pub ratio : Row
-ratio = describing 0x0a ratioOperands
+abbrev pub ratio : (width : ℕ) → Row
+ratio width = describing width 0x0a ratioOperands
 
 -- W6: 'Command 0B gives tone and rest, 4 bytes'
-abbrev pub rest : Row
-rest = record { code = 0x0b; operands = restedTone 1 ∷ restOperand ∷ []; does = λ h v. Rest (getD v 0 0) }
+abbrev pub rest : (width : ℕ) → Row
+rest width = record { code = codeOf width 0x0b; operands = restedTone width ∷ restOperand ∷ []; does = λ h v. Rest (getD v 0 0) }
 
--- 06 silence: 'word 1 (0 to 7), map 4'. The words are the format's.
+-- 06 silence: 'word 1, map 4'. The words, from 0 on, are the format's.
 abbrev pub silence : (words : ℕ) → Row
 silence words = record { code = 0x06; operands = within 1 0 (words - 1) ∷ map ∷ []; does = λ h v. Silence (getD v 0 0) (getD v 1 0) }
 
@@ -189,7 +191,7 @@ abbrev pub firstRows : (tones words stage : ℕ) → List Row
 firstRows tones words zero = size tones ∷ []
 firstRows tones words (suc zero) = gap ∷ []
 firstRows tones words (suc (suc zero)) = budget ∷ []
-firstRows tones words (suc (suc (suc n))) = pair ∷ single ∷ silence words ∷ end ∷ []
+firstRows tones words (suc (suc (suc n))) = pair 1 ∷ single 1 ∷ silence words ∷ end ∷ []
 
 -- W1: 08 'may stand where 02 stands'
 abbrev pub tenthsRows : (stage : ℕ) → List Row
@@ -202,18 +204,25 @@ abbrev pub readingRows : (stage : ℕ) → List Row
 readingRows zero = []
 readingRows (suc zero) = []
 readingRows (suc (suc zero)) = []
-readingRows (suc (suc (suc n))) = levels ∷ ratio ∷ []
+readingRows (suc (suc (suc n))) = levels 1 ∷ ratio 1 ∷ []
 
 -- W6: 0B stands 'after the tone's own command', which 14 judges
 abbrev pub restRows : (stage : ℕ) → List Row
 restRows zero = []
 restRows (suc zero) = []
 restRows (suc (suc zero)) = []
-restRows (suc (suc (suc n))) = rest ∷ []
+restRows (suc (suc (suc n))) = rest 1 ∷ []
+
+-- W8: 'Each command with a tone byte gets a twin'
+abbrev pub twinRows : (stage : ℕ) → List Row
+twinRows zero = []
+twinRows (suc zero) = []
+twinRows (suc (suc zero)) = []
+twinRows (suc (suc (suc n))) = pair 2 ∷ single 2 ∷ levels 2 ∷ ratio 2 ∷ rest 2 ∷ []
 
 -- those of document 01 and of the requests, in the order in which they came
 abbrev pub rowsOf : (tones words stage : ℕ) → List Row
-rowsOf tones words stage = ((firstRows tones words stage ++ tenthsRows stage) ++ readingRows stage) ++ restRows stage
+rowsOf tones words stage = (((firstRows tones words stage ++ tenthsRows stage) ++ readingRows stage) ++ restRows stage) ++ twinRows stage
 
 abbrev pub withCode : List Row → (code : ℕ) → Option Row
 withCode [] code = none

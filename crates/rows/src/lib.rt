@@ -1,5 +1,5 @@
 // The commands of a line sheet, one row for each, and the code that judges their operands: document 01, 'The line sheet' and 'Why a sheet is
-// turned down', and document 02, W1, W5 and W6.
+// turned down', and document 02, W1, W5, W6 and W8.
 ghost use mathlib.Core.Path.{_≡_};
 ghost use Prim.Native.Nat.{_+_, _≤_};
 ghost use lib.ListN.{length};
@@ -138,9 +138,9 @@ pub fn silence_command(s: &[u8], at: usize, header: Header) -> Command
     Command::Silence(word, map)
 }
 
-// How many bytes the command of a byte has in all; a byte of no command counts as the end. None has more than 09.
+// How many bytes the command of a byte has in all; a byte of no command counts as the end. None has more than the twin of 09.
 pub fn bytes_of(code: u8) -> usize
-    ensures { λ r. ⌜ (r ≡ commandBytes code) × (r ≤ levelsCommand) ⌝ }
+    ensures { λ r. ⌜ (r ≡ commandBytes code) × (r ≤ levelsCommand + 1) ⌝ }
 {
     match code {
         1 => SIZE_COMMAND,
@@ -153,6 +153,11 @@ pub fn bytes_of(code: u8) -> usize
         9 => LEVELS_COMMAND,
         10 => RATIO_COMMAND,
         11 => REST_COMMAND,
+        20 => TONE_COMMAND + 1,
+        21 => TONE_COMMAND + 1,
+        25 => LEVELS_COMMAND + 1,
+        26 => RATIO_COMMAND + 1,
+        27 => REST_COMMAND + 1,
         _ => END_COMMAND,
     }
 }

@@ -1,15 +1,16 @@
 -- The buffers of the test program: how long they are, what they are filled with, and when two hold the same bytes. Assumes nothing.
 use mathlib.Core.List.{List}
 use mathlib.Core.Path.{_≡_}
-use Prim.Native.Nat.{ℕ, _<_}
+use Prim.Native.Nat.{ℕ, _+_, _<_}
 use lib.ListN.{getD}
+use Rattle.sizes.specs.Sizes.{longestSheet}
 
--- the bytes of a buffer for a sheet or a table, and of the one for the text
+-- the bytes of a buffer for a sheet or a table, above the longest sheet's, and of the one for the text
 abbrev pub room : ℕ
-room = 4200
+room = longestSheet + 100
 
 abbrev pub textRoom : ℕ
-textRoom = 262144
+textRoom = 524288
 
 -- what a buffer for a sheet or a table is filled with
 abbrev pub fill : ℕ

@@ -6,11 +6,12 @@ ghost use lib.ListN.{length, getD};
 ghost use Rattle.lists.specs.Lent.{before};
 ghost use Rattle.io.specs.Counts.{Counts};
 ghost use Rattle.samplebuffers.specs.Buffers.{room, fill, textRoom, SameBytes};
+use sizes::SHEET_BYTES;
 
-// Room for a sheet, above the 4,096 bytes that a sheet may have.
-pub const ROOM: usize = 4200;
+// Room for a sheet or a table: the longest sheet and 100 bytes, so that a sheet may be too long.
+pub const ROOM: usize = SHEET_BYTES + 100;
 // Room for the text.
-const TEXT_ROOM: usize = 262144;
+const TEXT_ROOM: usize = 524_288;
 // What a buffer is filled with, so that a byte that is written shows.
 const FILL: u8 = 0xa5;
 

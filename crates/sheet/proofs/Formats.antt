@@ -21,10 +21,10 @@ use Rattle.rows.specs.declared.Command.{Command}
 use Rattle.rows.specs.declared.Command.the-variants.{End, Refused, Head, Describe, Rest, Silence}
 use Rattle.rows.specs.declared.Decoded.{Decoded}
 use Rattle.rows.specs.Rows.{Known, Row, width, withCode}
-use Rattle.places.specs.Places.{addressed}
-use Rattle.command.specs.Format.{Format, document01, withTenths, withReadings, today, isTooLong, decodedRow, decoded, isRefused, Covered, Within}
+use Rattle.addresses.specs.Addresses.{addressed}
+use Rattle.command.specs.Format.{Format, document01, withTenths, withReadings, withRests, today, isTooLong, decodedRow, decoded, isRefused, Covered, Within}
 use Rattle.command.proofs.Walk.{Each}
-use Rattle.command.proofs.Formats.{tenths-within, readings-within, rests-within}
+use Rattle.command.proofs.Formats.{tenths-within, readings-within, rests-within, withTwins, twins-within, sizes-within}
 use Rattle.sheet.specs.Reading.{accepted, headerOf, withEntry, SoFar, nothing, afterCommand, knownOf, commandIn, readOn, readFrom, saidIn, readingIn, reading}
 use Rattle.sheet.proofs.Walk.{Leads, said-by}
 use Rattle.sheet.proofs.Rests.{never, accepted-is, is-accepted}
@@ -132,11 +132,16 @@ module _ (s : List ℕ) where
   pub none-before : (l : Line) → saidIn withReadings s ≡ accepted l → restTotal l ≡ 0
   none-before = said-by withReadings s Along NoneSent kept (bare 0)
 
--- W6: a sheet that the format before it accepts is accepted, and means the same line
-pub accepted-before-rests : (s : List ℕ) (l : Line) → saidIn withReadings s ≡ accepted l → reading s ≡ accepted l
-accepted-before-rests s l e = is-accepted today s l (said-wider withReadings today rests-within s l e) (omega (arith, none-before s l e))
+-- W8: a sheet that the format before it accepts, with refusal 16, is accepted, and means the same line
+pub accepted-before-twins : (s : List ℕ) (l : Line) → readingIn withRests s ≡ accepted l → reading s ≡ accepted l
+accepted-before-twins s l e = accepted-wider withTwins today sizes-within s l (accepted-wider withRests withTwins twins-within s l e)
 
--- W5: and so is one that the format before that accepts
+-- W6: and so is one that the format before that accepts
+pub accepted-before-rests : (s : List ℕ) (l : Line) → saidIn withReadings s ≡ accepted l → reading s ≡ accepted l
+accepted-before-rests s l e =
+    accepted-before-twins s l (is-accepted withRests s l (said-wider withReadings withRests rests-within s l e) (omega (arith, none-before s l e)))
+
+-- W5: and one that the format before that accepts
 pub accepted-before-readings : (s : List ℕ) (l : Line) → saidIn withTenths s ≡ accepted l → reading s ≡ accepted l
 accepted-before-readings s l e = accepted-before-rests s l (said-wider withTenths withReadings readings-within s l e)
 

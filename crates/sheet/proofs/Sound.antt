@@ -7,7 +7,7 @@
 --   accepted-short                     and the sheet is not too long
 -- Assumes nothing.
 use mathlib.Core.Bool.{Bool, true, false}
-use mathlib.Core.List.{List}
+use mathlib.Core.List.{List, [], _∷_}
 use mathlib.Core.Path.{_≡_, refl, ap, sym, _∙_}
 use Prim.Native.Nat.{ℕ, zero, suc, _+_, _*_, _^_, _≤_, _<_}
 use native.Mathlib.Decide.{decLe}
@@ -18,11 +18,11 @@ use lib.Bits.{bitOr}
 use lib.Dec.{ltb, leb}
 use lib.ListN.{length, getD, set, length-set, length-replicate, List·getD-eq-default}
 use lib.Seq.{set-out}
-use Rattle.sizes.specs.Sizes.{mostTones, mostWords, wordTones, wordsOf, longestSheet, mostPower, pairCap, toneCommand, levelsCommand, ratioCommand, restCommand}
+use Rattle.sizes.specs.Sizes.{mostTones, mostWords, wordTones, wordsOf, longestSheet, mostPower, pairCap}
 use Rattle.lists.proofs.Tests.{by-test}
 use Rattle.lists.proofs.Stores.{all-same, after-store}
 use Rattle.bigendian.specs.Number.{number}
-use Rattle.bigendian.proofs.Numbers.{number-one, byte-from, number-lt, number-from}
+use Rattle.bigendian.proofs.Numbers.{byte-from, number-lt, number-there, number-from}
 use Rattle.silence.specs.Map.{bit, namesBeyond}
 use Rattle.silence.proofs.Maps.{beyond-clear, joined-bit, joined-lt}
 use Rattle.gaps.specs.Gap.{gapUnit, mostGap, mostTenths, PartsInRange, GapInRange}
@@ -31,6 +31,7 @@ use Rattle.readings.specs.Reading.{isUsable, Usable, isOver}
 use Rattle.readings.proofs.Readings.{usable-float, cost-low, granted}
 use Rattle.line.specs.declared.Numbers.{Numbers}
 use Rattle.line.specs.declared.ReadNumbers.{ReadNumbers}
+use Rattle.line.specs.declared.Kind.{Kind}
 use Rattle.line.specs.declared.Kind.the-variants.{Read}
 use Rattle.line.specs.Tone.{kindOf, mostCap, kindCost, NumbersInRange, InRange}
 use Rattle.line.specs.Line.{Entry, undescribed, described, withRest, EntryInRange, Line, gapOf, entryOf, restTotal, LineInRange}
@@ -38,11 +39,12 @@ use Rattle.line.proofs.Costs.{whole-range}
 use Rattle.line.proofs.Rested.{rest-taken}
 use Rattle.rows.specs.declared.Header.{Header}
 use Rattle.rows.specs.declared.Command.the-variants.{Describe, Silence}
-use Rattle.places.specs.Places.{addressed, numbersAt, levelsAt, ratioAt, kindAt, toneAt, restAt}
-use Rattle.rows.specs.Rows.{isRestOf, describing, numbers, levels, ratio, rest, silence}
+use Rattle.addresses.specs.Addresses.{codeOf, numberWidth, shortOf, addressed}
+use Rattle.places.specs.Places.{numbersAt, levelsAt, ratioAt, kindAt, toneAt, restAt}
+use Rattle.rows.specs.Rows.{Operand, isRestOf, describing, numbers, levelOperands, ratioOperands, levels, ratio, rest, silence, width}
 use Rattle.command.specs.Format.{today}
-use Rattle.command.proofs.Walk.{Each, passes, takes, in-within}
-use Rattle.sheet.specs.Reading.{accepted, bareLine, withEntry, effect, SoFar, saidIn, said, reading}
+use Rattle.command.proofs.Walk.{Each, Passed, passes, takes, in-within}
+use Rattle.sheet.specs.Reading.{accepted, headerOf, bareLine, withEntry, effect, SoFar, knownOf, saidIn, said, reading}
 use Rattle.sheet.proofs.Walk.{Leads, said-by}
 use Rattle.sheet.proofs.Rests.{never, accepted-is}
 
@@ -175,47 +177,69 @@ module _ (s : List ℕ) (bytes : Bytes s) where
     abbrev l : Line
     l = x .line
 
+    -- the tone that a command describes is the one that its byte has, with what it carries
+    tone-leads : (n w short : ℕ) (os : List Operand) (kind : Kind) → shortOf (codeOf w short) ≡ short → numberWidth (codeOf w short) ≡ w
+        → kindAt short s (at + 1 + w) ≡ kind → Sound l
+        → (at + 1 + w + width os ≤ length s → Passed (record { header = headerOf l; known = knownOf x (addressed s at); before = number s (at + 1) w ∷ [] }) s (at + 1 + w) os
+        → InRange (gapOf l) (record { kind = kind }))
+        → Leads today s Along Sound at (suc (suc (suc n))) x (describing w short os)
+    tone-leads n w short os kind back wide is z range own fits p =
+        describes s at _ l z (rw (own, back, wide, is) (range (omega (arith, fits)) (p .1)))
+
     -- 04 and 05
-    numbers-lead : (n code : ℕ) (single : Bool) → kindAt code s at ≡ kindOf single (numbersAt s at) → Sound l
-        → Leads today s Along Sound at (suc (suc (suc n))) x (describing code (numbers single))
-    numbers-lead n code single kind z is fits p =
-        let noise = in-within (number s (at + 1 + 1) 2) 1 65535 _ _ (p .1 .0) in
-        let gain = in-within (number s (at + 1 + 1 + 2) 2) 1 65535 _ _ (p .1 .1 .0) in
-        let cap = in-within (number s (at + 1 + 1 + 2 + 2) 1) 0 (mostCap single) _ _ (p .1 .1 .1 .0) in
-        let mask = in-within (number s (at + 1 + 1 + 2 + 2 + 1) 8) 0 mostPower _ _ (p .1 .1 .1 .1 .0) in
-        let noise-is = number-from s at toneCommand 2 2 (at + 1 + 1) (omega arith) (omega arith) (omega arith) (omega arith) in
-        let gain-is = number-from s at toneCommand 4 2 (at + 1 + 1 + 2) (omega arith) (omega arith) (omega arith) (omega arith) in
-        let cap-is = byte-from s at 6 (at + 1 + 1 + 2 + 2) (omega arith) in
-        let mask-is = number-from s at toneCommand 7 8 (at + 1 + 1 + 2 + 2 + 1) (omega arith) (omega arith) (omega arith) (omega arith) in
-        let range : NumbersInRange (numbersAt s at) = record { noise-low = omega arith; noise-high = omega arith; gain-low = omega arith; gain-high = omega arith } in
-        describes s at _ l z
-        (rw (is, kind) (numbers-in-range (gapOf l) single (numbersAt s at) (parts-in-range (l .gap) (z .in-range .gap)) range (omega arith) (omega arith)))
+    numbers-lead : (n w short : ℕ) (single : Bool) → shortOf (codeOf w short) ≡ short → numberWidth (codeOf w short) ≡ w
+        → kindAt short s (at + 1 + w) ≡ kindOf single (numbersAt s (at + 1 + w)) → Sound l
+        → Leads today s Along Sound at (suc (suc (suc n))) x (describing w short (numbers single))
+    numbers-lead n w short single back wide kind z = tone-leads n w short (numbers single) (kindOf single (numbersAt s (at + 1 + w))) back wide kind z (range (at + 1 + w))
+      where
+        range : (from : ℕ) → from + width (numbers single) ≤ length s
+            → Passed (record { header = headerOf l; known = knownOf x (addressed s at); before = number s (at + 1) w ∷ [] }) s from (numbers single)
+            → InRange (gapOf l) (record { kind = kindOf single (numbersAt s from) })
+        range from whole p =
+            let noise = in-within (number s from 2) 1 65535 _ _ (p .0) in
+            let gain = in-within (number s (from + 2) 2) 1 65535 _ _ (p .1 .0) in
+            let cap = in-within (number s (from + 2 + 2) 1) 0 (mostCap single) _ _ (p .1 .1 .0) in
+            let mask = in-within (number s (from + 2 + 2 + 1) 8) 0 mostPower _ _ (p .1 .1 .1 .0) in
+            let noise-is = number-there s from 2 (omega arith) (omega arith) in
+            let gain-is = number-there s (from + 2) 2 (omega arith) (omega arith) in
+            let cap-is = byte-from s from 4 (from + 2 + 2) (omega arith) in
+            let mask-is = number-from s from 13 5 8 (from + 2 + 2 + 1) whole (omega arith) (omega arith) (omega arith) in
+            let keeps : NumbersInRange (numbersAt s from) = record { noise-low = omega arith; noise-high = omega arith; gain-low = omega arith; gain-high = omega arith } in
+            numbers-in-range (gapOf l) single (numbersAt s from) (parts-in-range (l .gap) (z .in-range .gap)) keeps (omega arith) (omega arith)
 
     -- 09 and 0A, whose floats were judged with the gap
-    levels-lead : (n : ℕ) → Sound l → Leads today s Along Sound at (suc (suc (suc n))) x levels
-    levels-lead n z is fits p =
-        let noise = takes (isUsable (number s (at + 1 + 1) 4)) _ _ (p .1 .0) .0 in
-        let gain = takes (isUsable (number s (at + 1 + 1 + 4) 4)) _ _ (p .1 .1 .0) in
-        let cap = in-within (number s (at + 1 + 1 + 4 + 4) 1) 0 pairCap _ _ (p .1 .1 .1 .0) in
-        let mask = in-within (number s (at + 1 + 1 + 4 + 4 + 1) 8) 0 mostPower _ _ (p .1 .1 .1 .1 .0) in
-        let noise-is = number-from s at levelsCommand 2 4 (at + 1 + 1) (omega arith) (omega arith) (omega arith) (omega arith) in
-        let gain-is = number-from s at levelsCommand 6 4 (at + 1 + 1 + 4) (omega arith) (omega arith) (omega arith) (omega arith) in
-        let cap-is = byte-from s at 10 (at + 1 + 1 + 4 + 4) (omega arith) in
-        let mask-is = number-from s at levelsCommand 11 8 (at + 1 + 1 + 4 + 4 + 1) (omega arith) (omega arith) (omega arith) (omega arith) in
-        let range = read-in-range (gapOf l) (levelsAt s at) (rw (noise-is, gain-is) (usable-float _ noise, usable-float _ (gain .0))) in
-        describes s at _ l z
-        (rw is (range (rw (noise-is, gain-is) (passes _ _ _ (gain .1) .0)) (omega arith) (omega arith)))
+    levels-lead : (n w : ℕ) → shortOf (codeOf w 9) ≡ 9 → numberWidth (codeOf w 9) ≡ w → Sound l → Leads today s Along Sound at (suc (suc (suc n))) x (levels w)
+    levels-lead n w back wide z = tone-leads n w 9 levelOperands (Read (levelsAt s (at + 1 + w))) back wide refl z (range (at + 1 + w))
+      where
+        range : (from : ℕ) → from + width levelOperands ≤ length s
+            → Passed (record { header = headerOf l; known = knownOf x (addressed s at); before = number s (at + 1) w ∷ [] }) s from levelOperands
+            → InRange (gapOf l) (record { kind = Read (levelsAt s from) })
+        range from whole p =
+            let noise = takes (isUsable (number s from 4)) _ _ (p .0) .0 in
+            let gain = takes (isUsable (number s (from + 4) 4)) _ _ (p .1 .0) in
+            let cap = in-within (number s (from + 4 + 4) 1) 0 pairCap _ _ (p .1 .1 .0) in
+            let mask = in-within (number s (from + 4 + 4 + 1) 8) 0 mostPower _ _ (p .1 .1 .1 .0) in
+            let noise-is = number-there s from 4 (omega arith) (omega arith) in
+            let gain-is = number-there s (from + 4) 4 (omega arith) (omega arith) in
+            let cap-is = byte-from s from 8 (from + 4 + 4) (omega arith) in
+            let mask-is = number-from s from 17 9 8 (from + 4 + 4 + 1) whole (omega arith) (omega arith) (omega arith) in
+            read-in-range (gapOf l) (levelsAt s from) (rw (noise-is, gain-is) (usable-float _ noise, usable-float _ (gain .0)))
+            (rw (noise-is, gain-is) (passes _ _ _ (gain .1) .0)) (omega arith) (omega arith)
 
-    ratio-leads : (n : ℕ) → Sound l → Leads today s Along Sound at (suc (suc (suc n))) x ratio
-    ratio-leads n z is fits p =
-        let float = takes (isUsable (number s (at + 1 + 1) 4)) _ _ (p .1 .0) in
-        let cap = in-within (number s (at + 1 + 1 + 4) 1) 0 pairCap _ _ (p .1 .1 .0) in
-        let mask = in-within (number s (at + 1 + 1 + 4 + 1) 8) 0 mostPower _ _ (p .1 .1 .1 .0) in
-        let float-is = number-from s at ratioCommand 2 4 (at + 1 + 1) (omega arith) (omega arith) (omega arith) (omega arith) in
-        let cap-is = byte-from s at 6 (at + 1 + 1 + 4) (omega arith) in
-        let mask-is = number-from s at ratioCommand 7 8 (at + 1 + 1 + 4 + 1) (omega arith) (omega arith) (omega arith) (omega arith) in
-        describes s at _ l z
-        (rw is (read-in-range (gapOf l) (ratioAt s at) (rw float-is (usable-float _ (float .0))) (rw float-is (passes _ _ _ (float .1) .0)) (omega arith) (omega arith)))
+    ratio-leads : (n w : ℕ) → shortOf (codeOf w 10) ≡ 10 → numberWidth (codeOf w 10) ≡ w → Sound l → Leads today s Along Sound at (suc (suc (suc n))) x (ratio w)
+    ratio-leads n w back wide z = tone-leads n w 10 ratioOperands (Read (ratioAt s (at + 1 + w))) back wide refl z (range (at + 1 + w))
+      where
+        range : (from : ℕ) → from + width ratioOperands ≤ length s
+            → Passed (record { header = headerOf l; known = knownOf x (addressed s at); before = number s (at + 1) w ∷ [] }) s from ratioOperands
+            → InRange (gapOf l) (record { kind = Read (ratioAt s from) })
+        range from whole p =
+            let float = takes (isUsable (number s from 4)) _ _ (p .0) in
+            let cap = in-within (number s (from + 4) 1) 0 pairCap _ _ (p .1 .0) in
+            let mask = in-within (number s (from + 4 + 1) 8) 0 mostPower _ _ (p .1 .1 .0) in
+            let float-is = number-there s from 4 (omega arith) (omega arith) in
+            let cap-is = byte-from s from 4 (from + 4) (omega arith) in
+            let mask-is = number-from s from 13 5 8 (from + 4 + 1) whole (omega arith) (omega arith) (omega arith) in
+            read-in-range (gapOf l) (ratioAt s from) (rw float-is (usable-float _ (float .0))) (rw float-is (passes _ _ _ (float .1) .0)) (omega arith) (omega arith)
 
     silence-leads : (n : ℕ) → Sound l → Leads today s Along Sound at (suc (suc (suc n))) x (silence mostWords)
     silence-leads n z is fits p =
@@ -223,12 +247,12 @@ module _ (s : List ℕ) (bytes : Bytes s) where
         let map = number s (at + 1 + 1) 4 in
         silences s at word map l z (number-lt s (at + 1 + 1) 4 (λ i k. bytes (at + 1 + 1 + i))) (passes (namesBeyond (l .size) word map) _ _ (p .1 .0) .0)
 
-    rest-leads : (n : ℕ) → Sound l → Leads today s Along Sound at (suc (suc (suc n))) x rest
-    rest-leads n z is fits p =
-        let i = number s (at + 1) 1 in
-        let tone : i ≡ addressed s at = number-one s (at + 1) in
-        let value : restAt s at ≡ number s (at + 1 + 1) 4 = number-from s at restCommand 2 4 (at + 1 + 1) (omega arith) (omega arith) (omega arith) (omega arith) in
-        let given = takes (isRestOf (gapOf l) (entryOf l (addressed s at)) (number s (at + 1 + 1) 4)) _ _ (p .1 .0) .0 in
+    rest-leads : (n w : ℕ) → numberWidth (rest w .code) ≡ w → Sound l → Leads today s Along Sound at (suc (suc (suc n))) x (rest w)
+    rest-leads n w wide z own fits p =
+        let i = number s (at + 1) w in
+        let tone : i ≡ addressed s at = rw (own, wide) in
+        let value : restAt s at ≡ number s (at + 1 + w) 4 = rw (own, wide) (number-there s (at + 1 + w) 4 (omega arith) (omega (arith, fits))) in
+        let given = takes (isRestOf (gapOf l) (entryOf l (addressed s at)) (number s (at + 1 + w) 4)) _ _ (p .1 .0) .0 in
         stored i _ l z (rest-in-range (gapOf l) (restAt s at) (entryOf l i) (z .in-range .entries i (leb-false _ _ (passes (leb (l .size) i) _ _ (p .0) .0))) (rw (tone, value) given))
 
   pub kept : (at stage : ℕ) (x : SoFar) → Along at stage x → Each (Leads today s Along Sound at stage x) (today .rows stage)
@@ -241,10 +265,28 @@ module _ (s : List ℕ) (bytes : Bytes s) where
   kept at (suc (suc zero)) x a =
       (λ is fits p. let v = in-within (number s (at + 1) 8) 0 mostPower _ _ (p .0) in bare-sound _ (a .0) (a .1) (v .1), tt)
   kept at (suc (suc (suc n))) x z = (
-    numbers-lead at x n 4 false refl z,
+    numbers-lead at x n 1 4 false refl refl refl z,
     (
-      numbers-lead at x n 5 true refl z,
-      (silence-leads at x n z, (λ is fits p e. z, (levels-lead at x n z, (ratio-leads at x n z, (rest-leads at x n z, tt))))),
+      numbers-lead at x n 1 5 true refl refl refl z,
+      (
+        silence-leads at x n z,
+        (
+          λ is fits p e. z,
+          (
+            levels-lead at x n 1 refl refl z,
+            (
+              ratio-leads at x n 1 refl refl z,
+              (
+                rest-leads at x n 1 refl z,
+                (
+                  numbers-lead at x n 2 4 false refl refl refl z,
+                  (numbers-lead at x n 2 5 true refl refl refl z, (levels-lead at x n 2 refl refl z, (ratio-leads at x n 2 refl refl z, (rest-leads at x n 2 refl z, tt)))),
+                ),
+              ),
+            ),
+          ),
+        ),
+      ),
     ),
   )
 

@@ -29,7 +29,8 @@ use Rattle.rows.specs.declared.Header.{Header}
 use Rattle.rows.specs.declared.Command.{Command}
 use Rattle.rows.specs.declared.Command.the-variants.{End, Refused, Head, Describe, Rest, Silence}
 use Rattle.rows.specs.declared.Decoded.{Decoded}
-use Rattle.places.specs.Places.{addressed, entryAt}
+use Rattle.addresses.specs.Addresses.{addressed}
+use Rattle.places.specs.Places.{entryAt}
 use Rattle.rows.specs.Codes.{knownAt}
 use Rattle.command.specs.Format.{today, commandAt}
 use Rattle.command.proofs.Said.{There, Said, command-said}
@@ -108,6 +109,15 @@ one-command (suc most) s at stage x h =
     ap (λ (k : ℕ). readOn (afterDecoded (commandIn today x s at stage) s at stage x) (readFrom today k s)) (sym e)
 
 module _ {s places rests maps : List ℕ} {h : Header} {at stage : ℕ} (g : Going s places rests maps h at stage) where
+  -- after the first three commands the line is sound, so it has no more tones than a line may have
+  sound-late : 3 ≤ stage → Sound (g .sofar .line)
+  sound-late late =
+      let three : stage ≡ 3 = omega (arith, g .low) in
+      rw three at (g .sound)
+
+  tone-small : {i : ℕ} → 3 ≤ stage → i < g .sofar .line .size → i < mostTones
+  tone-small late h = omega (arith, sound-late late .in-range .size-high)
+
   -- a tone that is described so far is in range: in a line that is sound, or none is
   pub known-in-range : (i : ℕ) → EntryInRange (parts (h .gap)) (entryAt s (getD places i 0) (getD rests i 0))
   known-in-range i = by (decLt stage 3)
@@ -115,10 +125,8 @@ module _ {s places rests maps : List ℕ} {h : Header} {at stage : ℕ} (g : Goi
       by : Dec (stage < 3) → EntryInRange (parts (h .gap)) (entryAt s (getD places i 0) (getD rests i 0))
       by (yes e) = rw (g .empty e .no-place i) tt
       by (no m) =
-          let three : stage ≡ 3 = omega (arith, g .low) in
-          let sound : Sound (g .sofar .line) = rw three at (g .sound) in
           let gap : gapOf (g .sofar .line) ≡ parts (h .gap) = ap (λ (k : Header). parts (k .gap)) (g .header-is) in
-          rw (gap, g .index .entry i) at (all-in-range sound i)
+          rw (gap, g .index .entry i) at (all-in-range (sound-late (omega arith)) i)
 
   module _ {d : Decoded} (e : d ≡ commandAt today h (knownAt s (getD places (addressed s at) 0) (getD rests (addressed s at) 0)) s at stage) where
     -- what was decoded by the places of the tone is the command of what the reading remembers
@@ -167,6 +175,13 @@ module _ {s places rests maps : List ℕ} {h : Header} {at stage : ℕ} (g : Goi
             let is : g .sofar .line ≡ m = cc in
             rw is at (g .index)
 
+    -- a tone that a command describes, or gives its rest, is one of those that the arrays have
+    pub described-small : (i : ℕ) → d .command ≡ Describe i → i < mostTones
+    described-small i f = let k = heard _ f in tone-small (k .late) (k .of-line)
+
+    pub rested-small : (i : ℕ) → d .command ≡ Rest i → i < mostTones
+    rested-small i f = let k = heard _ f in tone-small (k .late) (k .of-line)
+
     -- it goes on after this command
     goes-on : Bytes s → {places′ rests′ maps′ : List ℕ} {h′ : Header} {stage′ : ℕ} (y : SoFar) → There (length s) at (d .next) → afterDecoded d s at stage (g .sofar) ≡ go (d .next) stage′ y
         → Sized (y .line) → headerOf (y .line) ≡ h′ → Indexes s places′ rests′ maps′ (y .line) → ((i : ℕ) → y .rested i ≡ ltb 0 (getD rests′ i 0))
@@ -199,26 +214,23 @@ module _ {s places rests maps : List ℕ} {h : Header} {at stage : ℕ} (g : Goi
     sized-entry i e = record { entries-sized = length-set (g .sofar .line .entries) i _ ∙ g .sized .entries-sized; maps-sized = g .sized .maps-sized }
 
     -- the tone that is described is the one that the command addresses
-    pub on-describe : Bytes s → (i tone : ℕ) → tone ≡ addressed s at → tone < mostTones → d .command ≡ Describe i → Going s (set places tone at) rests maps h (d .next) stage
-    on-describe bytes i tone is small f =
+    pub on-describe : Bytes s → (i : ℕ) → d .command ≡ Describe i → Going s (set places i at) rests maps h (d .next) stage
+    on-describe bytes i f =
         let k = heard _ f in
-        let same : tone ≡ i = is ∙ sym (k .tone) in
         let new : getD places i 0 ≡ 0 = no-place (g .index) i (rw (k .tone) (k .new)) in
-        rw same
-        (goes-on bytes (soFarAfter (Describe i) s at (g .sofar)) (k .there) (simp f) (sized-entry i _) (g .header-is)
-        (notes-describe s (g .index) at i (omega arith) (omega (arith, k .of-line, g .sized .entries-sized)) (omega arith) new (record { code = k .code; tone = sym (k .tone); inside = k .whole }))
-        (g .rested-is) (λ l. absurd (omega arith)) (g .low) (omega arith))
+        goes-on bytes (soFarAfter (Describe i) s at (g .sofar)) (k .there) (simp f) (sized-entry i _) (g .header-is)
+        (notes-describe s (g .index) at i (tone-small (k .late) (k .of-line)) (omega (arith, k .of-line, g .sized .entries-sized)) (omega arith) new (record { code = k .code; tone = sym (k .tone); inside = k .whole }))
+        (g .rested-is) (λ l. absurd (omega arith)) (g .low) (omega arith)
 
     -- and so is the tone that is given its rest
-    pub on-rest : Bytes s → (i tone : ℕ) → tone ≡ addressed s at → tone < mostTones → d .command ≡ Rest i → Going s places (set rests tone at) maps h (d .next) stage
-    on-rest bytes i tone is small f =
+    pub on-rest : Bytes s → (i : ℕ) → d .command ≡ Rest i → Going s places (set rests i at) maps h (d .next) stage
+    on-rest bytes i f =
         let k = heard _ f in
-        let same : tone ≡ i = is ∙ sym (k .tone) in
+        let small = tone-small (k .late) (k .of-line) in
         let placed : 0 < getD places i 0 = has-place (g .index) i (rw (k .tone) (described-takes (knownOf (g .sofar) (addressed s at)) (k .takes-one))) in
-        rw same
-        (goes-on bytes (soFarAfter (Rest i) s at (g .sofar)) (k .there) (simp f) (sized-entry i _) (g .header-is)
-        (notes-rest s (g .index) at i (omega arith) (omega (arith, k .of-line, g .sized .entries-sized)) (omega arith) placed (record { code = k .code; tone = sym (k .tone); inside = k .whole }))
-        (λ j. rested j i (omega (arith, g .index .rests-sized)) (omega arith)) (λ l. absurd (omega arith)) (g .low) (omega arith))
+        goes-on bytes (soFarAfter (Rest i) s at (g .sofar)) (k .there) (simp f) (sized-entry i _) (g .header-is)
+        (notes-rest s (g .index) at i small (omega (arith, k .of-line, g .sized .entries-sized)) (omega arith) placed (record { code = k .code; tone = sym (k .tone); inside = k .whole }))
+        (λ j. rested j i (omega (arith, small, g .index .rests-sized)) (omega arith)) (λ l. absurd (omega arith)) (g .low) (omega arith)
       where
         rested : (j i : ℕ) → i < length rests → 0 < at → cond (eqb j i) true (g .sofar .rested j) ≡ ltb 0 (getD (set rests i at) j 0)
         rested j i inside late = by (ℕ-discrete j i)

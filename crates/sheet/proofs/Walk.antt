@@ -13,7 +13,7 @@ use Rattle.line.specs.Line.{Line}
 use Rattle.rows.specs.declared.Command.{Command}
 use Rattle.rows.specs.declared.Command.the-variants.{End, Refused, Head, Describe, Rest, Silence}
 use Rattle.rows.specs.Rows.{Row, width}
-use Rattle.places.specs.Places.{addressed}
+use Rattle.addresses.specs.Addresses.{addressed}
 use Rattle.command.specs.Format.{Format, isTooLong}
 use Rattle.command.proofs.Walk.{seenAt, Passed, values, Each, by-rows}
 use Rattle.sheet.specs.Reading.{Meaning, accepted, refused, headerOf, SoFar, nothing, soFarAfter, Next, stop, go, afterCommand, knownOf, commandIn, afterDecoded, readOn, readFrom, saidIn}

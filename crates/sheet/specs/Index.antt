@@ -5,26 +5,28 @@ use mathlib.Core.List.{List}
 use mathlib.Core.Path.{_≡_}
 use Prim.Native.Nat.{ℕ, _+_, _≤_, _<_}
 use lib.ListN.{length, getD, replicate}
-use Rattle.sizes.specs.Sizes.{mostTones, mostWords, restCommand}
+use Rattle.sizes.specs.Sizes.{mostTones, mostWords}
 use Rattle.line.specs.Line.{Line, entryOf}
 use Rattle.rows.specs.declared.Header.{Header}
-use Rattle.rows.specs.Codes.{ToneCode, commandBytes}
+use Rattle.addresses.specs.Addresses.{addressed}
+use Rattle.rows.specs.Codes.{ToneCode, RestCode, commandBytes}
 use Rattle.places.specs.Places.{entryAt}
 use Rattle.sheet.specs.declared.Read.{Read}
 use Rattle.sheet.specs.declared.Read.the-variants as read
 use Rattle.sheet.specs.Reading.{Meaning, accepted, refused, headerOf, said}
 
--- the command of tone i stands at a place: its byte, its tone, and all of its bytes
-pub record ToneStands (s : List ℕ) (i place : ℕ) : Type 0 where
-  pub code : ToneCode (getD s place 0)
-  pub tone : getD s (place + 1) 0 ≡ i
+-- a command that addresses tone i stands at a place: a byte of its kind, its tone, and all of its bytes
+pub record Stands (Code : ℕ → Type 0) (s : List ℕ) (i place : ℕ) : Type 0 where
+  pub code : Code (getD s place 0)
+  pub tone : addressed s place ≡ i
   pub inside : place + commandBytes (getD s place 0) ≤ length s
 
--- the 0B of tone i stands at a place: its byte, its tone, and all of its bytes
-pub record RestStands (s : List ℕ) (i place : ℕ) : Type 0 where
-  pub code : getD s place 0 ≡ 0x0b
-  pub tone : getD s (place + 1) 0 ≡ i
-  pub inside : place + restCommand ≤ length s
+-- the one that describes it, and the one that gives its rest
+abbrev pub ToneStands : List ℕ → (i place : ℕ) → Type 0
+ToneStands = Stands ToneCode
+
+abbrev pub RestStands : List ℕ → (i place : ℕ) → Type 0
+RestStands = Stands RestCode
 
 -- The arrays index a line in a sheet. Tone by tone: the entry is the one whose command stands at the tone's place, and whose rest's at its
 -- rest's place, 0 for none; a tone without a place has no rest's. The maps are the line's; from its last word on they are 0.

@@ -1,5 +1,5 @@
 -- What a sheet means, for all byte lists of any length: what its bytes say, and then whether its rests keep the budget. Document 01, 'The
--- line sheet' and 'Why a sheet is turned down'; document 02, W1, W5 and W6.
+-- line sheet' and 'Why a sheet is turned down'; document 02, W1, W5, W6 and W8.
 -- Assumes nothing.
 use mathlib.Core.Bool.{Bool, true, false, cond}
 use mathlib.Core.List.{List}
@@ -16,7 +16,8 @@ use Rattle.rows.specs.declared.Header.{Header}
 use Rattle.rows.specs.declared.Command.{Command}
 use Rattle.rows.specs.declared.Command.the-variants.{End, Refused, Head, Describe, Rest, Silence}
 use Rattle.rows.specs.declared.Decoded.{Decoded}
-use Rattle.places.specs.Places.{addressed, toneAt, restAt}
+use Rattle.addresses.specs.Addresses.{addressed}
+use Rattle.places.specs.Places.{toneAt, restAt}
 use Rattle.rows.specs.Rows.{Known}
 use Rattle.command.specs.Format.{Format, today, isTooLong, decoded}
 

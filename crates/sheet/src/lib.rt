@@ -4,7 +4,7 @@ ghost use mathlib.Core.List.{List};
 ghost use mathlib.Core.Path.{_≡_};
 ghost use Prim.Native.Nat.{ℕ, _≤_, _<_};
 ghost use lib.Dec.{ltb};
-ghost use lib.ListN.{getD, replicate};
+ghost use lib.ListN.{length, getD, replicate};
 ghost use Rattle.sizes.specs.Sizes.{mostTones, mostWords};
 ghost use Rattle.lists.specs.Lent.{before, after};
 ghost use Rattle.silence.specs.Map.{count};
@@ -26,6 +26,18 @@ use sizes::WORDS;
 pub enum Read {
     Accepted(Header),
     Refused(Refusal),
+}
+
+// What is noted of a tone: nothing of one that no line has.
+fn noted(notes: &[u16; TONES], tone: u16) -> u16
+    requires { ⌜ length (now notes) ≡ mostTones ⌝ }
+    ensures { λ r. ⌜ r ≡ getD (before notes) tone 0 ⌝ }
+{
+    let i = tone as usize;
+    if i < TONES {
+        return notes[i];
+    }
+    0
 }
 
 // Reads the commands of a sheet one after the other, and notes where each tone's stands, where its rest's does, and which tones the maps
@@ -50,8 +62,10 @@ pub fn read_commands(
     let mut stage: u8 = 0;
     let mut at: usize = 0;
     loop {
-        let tone = places::addressed(s, at);
-        let decoded = command::decode(s, at, stage, header, places[tone], rests[tone]);
+        let tone = addresses::addressed(s, at);
+        let place = noted(places, tone);
+        let rested = noted(rests, tone);
+        let decoded = command::decode(s, at, stage, header, place, rested);
         let command = decoded.command;
         let next = decoded.next;
         match command {
@@ -66,8 +80,8 @@ pub fn read_commands(
                 header = h;
                 stage += 1;
             }
-            Command::Describe(_) => places[tone] = at as u16,
-            Command::Rest(_) => rests[tone] = at as u16,
+            Command::Describe(i) => places[i as usize] = at as u16,
+            Command::Rest(i) => rests[i as usize] = at as u16,
             Command::Silence(word, map) => {
                 maps[word as usize] |= map;
             }

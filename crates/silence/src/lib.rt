@@ -1,5 +1,6 @@
 // The silence maps of a line: a word for each 32 tones.
 ghost use mathlib.Core.Path.{_≡_};
+ghost use Prim.Native.Nat.{_<_};
 ghost use lib.Dec.{eqb};
 ghost use Rattle.sizes.specs.Sizes.{mostTones, wordTones};
 ghost use Rattle.lists.specs.Lent.{before};
@@ -8,7 +9,8 @@ use sizes::WORD_TONES;
 use sizes::WORDS;
 
 // Whether the maps silence a tone.
-pub fn is_silenced(maps: &[u32; WORDS], tone: u8) -> bool
+pub fn is_silenced(maps: &[u32; WORDS], tone: u16) -> bool
+    requires { ⌜ tone < mostTones ⌝ }
     ensures { λ r. ⌜ r ≡ silenced (before maps) tone ⌝ }
 {
     let tone = tone as u32;

@@ -2,13 +2,13 @@
 -- Assumes nothing.
 use Prim.Native.Nat.{ℕ, _+_, _*_, _/_, _^_}
 
--- 'A sheet has N tones, 1 to 256.'
+-- 'A sheet has N tones', from 1 on. W8: 'Size may be up to 1,024, and a silence word up to 31'
 abbrev pub mostTones : ℕ
-mostTones = 256
+mostTones = 1024
 
--- 'word 1 (0 to 7), map 4': a word has 32 tones, one for each bit of its map
+-- the words from 0 on; 'word 1, map 4': a word has 32 tones, one for each bit of its map
 abbrev pub mostWords : ℕ
-mostWords = 8
+mostWords = 32
 
 abbrev pub wordTones : ℕ
 wordTones = 32
@@ -17,9 +17,9 @@ wordTones = 32
 abbrev pub wordsOf : (n : ℕ) → ℕ
 wordsOf n = (n + 31) / wordTones
 
--- 'in at most 4,096 bytes'
+-- W8: 'A sheet may be 32,768 bytes'
 abbrev pub longestSheet : ℕ
-longestSheet = 4096
+longestSheet = 32768
 
 -- 'pair (two-dimensional, cap 0 to 15) and single (one-dimensional, cap 0 to 7)'
 abbrev pub pairCap : ℕ

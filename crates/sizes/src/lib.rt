@@ -1,15 +1,15 @@
 // The sizes that documents 01 and 02 set, each named once. specs/Sizes.antt has the same names for the definitions.
 
 // The most tones of a line.
-pub const TONES: usize = 256;
+pub const TONES: usize = 1024;
 
 // The words of the silence maps, and the tones of a word.
-pub const WORDS: usize = 8;
+pub const WORDS: usize = 32;
 
 pub const WORD_TONES: u32 = 32;
 
 // The longest sheet, in bytes.
-pub const SHEET_BYTES: usize = 4096;
+pub const SHEET_BYTES: usize = 32_768;
 
 // The largest cap of a pair tone and of a single tone.
 pub const PAIR_CAP: u8 = 15;

@@ -8,7 +8,7 @@ use native.Mathlib.Nat.{le-of-lt}
 use native.Mathlib.Numerals.{add-one}
 use native.Mathlib.Omega.{arith}
 use lib.ListN.{length, getD, set, replicate}
-use Rattle.sizes.specs.Sizes.{mostTones, mostPower}
+use Rattle.sizes.specs.Sizes.{mostTones}
 use Rattle.lists.proofs.Stores.{all-same, Filled, filled-none, filled-more}
 use Rattle.steps.specs.Tones.{Table, _!_, noBits, sum}
 use Rattle.steps.proofs.Sums.{sum-at-most, sum-eq, sum-zero}
@@ -33,7 +33,7 @@ module _ (costs doublings rests : List ℕ) (t : Table) where
 
 -- with the rest of one tone more the sum stays below 2^64
 pub rests-room : {count : ℕ} {rests : List ℕ} → RestsInRange count rests → (i : ℕ) → i < count → count ≤ mostTones
-    → sum i (λ j. getD rests j 0) + getD rests i 0 ≤ mostPower
+    → sum i (λ j. getD rests j 0) + getD rests i 0 < 2 ^ 64
 unfolding sum
 rests-room {rests = rests} R i il few =
     omega (arith, sum-at-most (suc i) (2 ^ 24) (λ j. getD rests j 0) (λ j jl. omega (arith, R .rest-high j (omega arith))))
@@ -54,7 +54,7 @@ module _ {costs doublings rests : List ℕ} {t : Table} where
 
   -- with one tone more the sum stays below 2^64
   pub power-room : PowersInRange (length t) costs doublings rests t → (i : ℕ) → i < length t → length t ≤ mostTones
-      → sum i (startPower costs doublings rests t) + startPower costs doublings rests t i ≤ mostPower
+      → sum i (startPower costs doublings rests t) + startPower costs doublings rests t i < 2 ^ 64
   unfolding sum
   power-room R i il few = omega (arith, sum-at-most (suc i) (2 ^ 39) (startPower costs doublings rests t) (λ j jl. high j (omega arith)))
     where

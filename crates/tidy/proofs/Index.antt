@@ -15,16 +15,16 @@ use Rattle.sheet.proofs.Sound.{Bytes}
 use Rattle.sheet.proofs.Uses.{size-is, line-sound, line-in-range}
 use Rattle.tidyform.specs.Tidy.{toneBytes, mapBytes, headBytes, tidy}
 use Rattle.tidyform.proofs.Length.{length-tidy}
-use Rattle.tidy.specs.Copies.{Inside, RestInside, copies}
-use Rattle.tidy.proofs.Copies.{copies-are, maps-are}
+use Rattle.tidy.specs.Copies.{Inside, copies}
+use Rattle.tidy.proofs.Copies.{tone-inside, rest-inside, copies-are, maps-are}
 use Rattle.tidy.proofs.Writes.{line-stores}
 
 module _ {s places rests maps : List ℕ} {h : Header} (x : Indexed s h places rests maps) where
   pub tones-inside : (i : ℕ) → Inside s (getD places i 0)
-  tones-inside i = record { whole = λ k. x .indexes .stands i k .inside }
+  tones-inside i = tone-inside s i (getD places i 0) (x .indexes .stands i)
 
-  pub rests-inside : (i : ℕ) → RestInside s (getD rests i 0)
-  rests-inside i = record { whole = λ k. x .indexes .rest-stands i k .inside }
+  pub rests-inside : (i : ℕ) → Inside s (getD rests i 0)
+  rests-inside i = rest-inside s i (getD rests i 0) (x .indexes .rest-stands i)
 
   module _ (b : Bytes s) where
     tones-are : toneBytes (x .line .size) (x .line .entries) ≡ copies (h .size) s places rests

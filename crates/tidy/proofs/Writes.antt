@@ -11,7 +11,7 @@ use borrow.Author.Tests.{eq-eqb, ne-eqb}
 use lib.Dec.{eqb}
 use lib.ListN.{length, getD, set, length-append}
 use lib.Seq.{sets}
-use Rattle.sizes.specs.Sizes.{wordsOf, sizeCommand, restCommand, silenceCommand}
+use Rattle.sizes.specs.Sizes.{wordsOf, sizeCommand, silenceCommand}
 use Rattle.bigendian.specs.Number.{bytes}
 use Rattle.bigendian.proofs.Numbers.{length-bytes, bytes-one}
 use Rattle.lists.specs.Joined.{joinedBelow}
@@ -21,65 +21,12 @@ use Rattle.line.specs.Line.{Line}
 use Rattle.places.specs.Places.{restFrom}
 use Rattle.rows.specs.declared.Header.{Header}
 use Rattle.rows.specs.Rows.{budget, end}
-use Rattle.rows.specs.Codes.{commandBytes, sizeRow, silenceRow}
+use Rattle.addresses.specs.Addresses.{codeOf, shortOf, carriedAt}
+use Rattle.rows.specs.Codes.{sizeRow, silenceRow}
 use Rattle.sheet.specs.Reading.{headerOf}
-use Rattle.tidyform.specs.Tidy.{written, toneBytes, mapBytes, gapBytes, headBytes, tidy}
-use Rattle.tidy.specs.Copies.{part, Inside, RestInside, toneCopy, restCopy, entryCopy, copies}
+use Rattle.tidyform.specs.Tidy.{written, tidyWidth, toneBytes, mapBytes, gapBytes, headBytes, tidy}
+use Rattle.tidy.specs.Copies.{part, carriedBytes, commandCopy, toneCopy, restCopy, entryCopy}
 use Rattle.tidy.proofs.Copies.{length-part}
-
--- The copied tones.
-
-pub length-copy : (s : List ℕ) (place : ℕ) → 0 < place → length (toneCopy s place) ≡ commandBytes (getD s place 0)
-length-copy s zero h = absurd (omega arith)
-length-copy s (suc p) h = length-part s (suc p) (commandBytes (getD s (suc p) 0))
-
-pub length-no-copy : (s : List ℕ) {place : ℕ} → place ≡ 0 → length (toneCopy s place) ≡ 0
-length-no-copy s e = rw e
-
-pub length-rest : (s : List ℕ) (place : ℕ) → (restFrom s place ≡ 0 → ⊥) → length (restCopy s place) ≡ restCommand
-length-rest s place n = rw (ne-eqb (restFrom s place) 0 n) (length-part s place restCommand)
-
-pub length-no-rest : (s : List ℕ) (place : ℕ) → restFrom s place ≡ 0 → length (restCopy s place) ≡ 0
-length-no-rest s place e = rw (eq-eqb (restFrom s place) 0 e)
-
--- what is copied is a part of the sheet, that of no tone and of no rest too
-pub copy-is : (s : List ℕ) (place : ℕ) → toneCopy s place ≡ part s place (length (toneCopy s place))
-unfolding joinedBelow
-copy-is s zero = refl
-copy-is s (suc p) = ap (part s (suc p)) (sym (length-part s (suc p) (commandBytes (getD s (suc p) 0))))
-
-pub rest-is : (s : List ℕ) (place : ℕ) → restCopy s place ≡ part s place (length (restCopy s place))
-unfolding joinedBelow
-rest-is s place = by (eqb (restFrom s place) 0)
-  where
-    by : (none : Bool) → (let copy = cond none [] (part s place restCommand) in copy ≡ part s place (length copy))
-    by true = refl
-    by false = ap (part s place) (sym (length-part s place restCommand))
-
--- and is inside it
-pub copy-inside : (s : List ℕ) (place : ℕ) → Inside s place → place + length (toneCopy s place) ≤ length s
-copy-inside s zero I = omega arith
-copy-inside s (suc p) I = omega (arith, I .whole (omega arith), length-copy s (suc p) (omega arith))
-
-pub rest-inside : (s : List ℕ) (place : ℕ) → RestInside s place → place + length (restCopy s place) ≤ length s
-rest-inside s zero I = omega arith
-rest-inside s (suc p) I = by (ℕ-discrete (restFrom s (suc p)) 0)
-  where
-    by : Dec (restFrom s (suc p) ≡ 0) → suc p + length (restCopy s (suc p)) ≤ length s
-    by (yes e) = omega (arith, I .whole (omega arith), length-no-rest s (suc p) e)
-    by (no n) = omega (arith, I .whole (omega arith), length-rest s (suc p) n)
-
--- a tone's command and its rest's
-pub length-entry : (s : List ℕ) (place rest : ℕ) → length (entryCopy s place rest) ≡ length (toneCopy s place) + length (restCopy s rest)
-length-entry s place rest = length-append (toneCopy s place) (restCopy s rest)
-
--- the one copied to a place, the other straight after it
-pub entry-stores : (out : List ℕ) (at : ℕ) (s : List ℕ) (place rest : ℕ) → sets out at (entryCopy s place rest)
-    ≡ (let w = length (toneCopy s place) in sets (sets out at (part s place w)) (at + w) (part s rest (length (restCopy s rest))))
-entry-stores out at s place rest =
-    sets-append out at (toneCopy s place) (restCopy s rest)
-    ∙ ap (λ (xs : List ℕ). sets (sets out at xs) (at + length (toneCopy s place)) (restCopy s rest)) (copy-is s place)
-    ∙ ap (sets (sets out at (part s place (length (toneCopy s place)))) (at + length (toneCopy s place))) (rest-is s rest)
 
 -- The commands that are written number by number, as the stores that write them.
 
@@ -88,6 +35,43 @@ sets-bytes : (l : List ℕ) (i w v : ℕ) (rest : List ℕ) (j : ℕ) → i + w 
 sets-bytes l i w v rest j e =
     let k : i + length (bytes w v) ≡ j = omega (arith, length-bytes w v) in
     rw k at (sets-append l i (bytes w v) rest)
+
+-- The copied tones.
+
+-- a command
+module _ (s : List ℕ) (i place : ℕ) where
+  pub length-command : length (commandCopy s i place) ≡ 1 + tidyWidth i + carriedBytes (getD s place 0)
+  length-command = simp (length-append, length-bytes, length-part) (omega arith)
+
+  pub command-stores : (out : List ℕ) (at : ℕ) → sets out at (commandCopy s i place)
+      ≡ (let w = tidyWidth i in
+      sets (sets (set out at (codeOf w (shortOf (getD s place 0)))) (at + 1) (bytes w i)) (at + 1 + w) (part s (carriedAt s place) (carriedBytes (getD s place 0))))
+  command-stores out at = rw (add-one at) (sets-bytes _ (suc at) (tidyWidth i) i _ (suc at + tidyWidth i) refl)
+
+-- the one that describes the tone, or none
+pub some-copy : (s : List ℕ) (i place : ℕ) → 0 < place → toneCopy s i place ≡ commandCopy s i place
+some-copy s i zero h = absurd (omega arith)
+some-copy s i (suc p) h = refl
+
+pub no-copy : (s : List ℕ) (i place : ℕ) → place ≤ 0 → toneCopy s i place ≡ []
+no-copy s i zero h = refl
+no-copy s i (suc p) h = absurd (omega arith)
+
+-- the one that gives its rest, or none
+pub some-rest : (s : List ℕ) (i place : ℕ) → (restFrom s place ≡ 0 → ⊥) → restCopy s i place ≡ commandCopy s i place
+some-rest s i place n = rw (ne-eqb (restFrom s place) 0 n)
+
+pub no-rest : (s : List ℕ) (i place : ℕ) → restFrom s place ≡ 0 → restCopy s i place ≡ []
+no-rest s i place e = rw (eq-eqb (restFrom s place) 0 e)
+
+-- a rest that is not 0 has a place
+pub rest-placed : (s : List ℕ) (place : ℕ) → (restFrom s place ≡ 0 → ⊥) → 0 < place
+rest-placed s zero n = absurd (n refl)
+rest-placed s (suc p) n = omega arith
+
+-- both, the one straight after the other
+pub length-entry : (s : List ℕ) (i place rest : ℕ) → length (entryCopy s i place rest) ≡ length (toneCopy s i place) + length (restCopy s i rest)
+length-entry s i place rest = length-append (toneCopy s i place) (restCopy s i rest)
 
 pub word-stores : (out : List ℕ) (at word map : ℕ) → word < 256
     → sets out at (written silenceRow (word ∷ map ∷ [])) ≡ sets (set (set out at 6) (at + 1) word) (at + 2) (bytes 4 map)

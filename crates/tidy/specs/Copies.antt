@@ -1,14 +1,17 @@
--- The described tones of the tidy form as they are written: each command, and each rest's, copied from its place in the sheet.
+-- The described tones of the tidy form as they are written: of each command, and of each rest's, the byte and the tone's number in the width
+-- that the tidy form has, and what it carries copied from its place in the sheet.
 -- Assumes nothing.
 use mathlib.Core.Bool.{cond}
 use mathlib.Core.List.{List, [], _∷_, _++_}
-use Prim.Native.Nat.{ℕ, zero, suc, _+_, _≤_, _<_}
+use Prim.Native.Nat.{ℕ, zero, suc, _+_, _-_, _≤_, _<_}
 use lib.Dec.{eqb}
 use lib.ListN.{length, getD}
-use Rattle.sizes.specs.Sizes.{restCommand}
 use Rattle.lists.specs.Joined.{joinedBelow}
+use Rattle.bigendian.specs.Number.{bytes}
+use Rattle.addresses.specs.Addresses.{codeOf, numberWidth, shortOf, carriedAt}
 use Rattle.places.specs.Places.{restFrom}
 use Rattle.rows.specs.Codes.{commandBytes}
+use Rattle.tidyform.specs.Tidy.{tidyWidth}
 
 -- the bytes of a sheet from a place on
 abbrev pub byteFrom : List ℕ → (at k : ℕ) → List ℕ
@@ -17,28 +20,35 @@ byteFrom s at k = getD s (at + k) 0 ∷ []
 abbrev pub part : List ℕ → (at width : ℕ) → List ℕ
 part s at width = joinedBelow (byteFrom s at) width
 
--- a tone's command that stands at a place is all there; none stands at 0
+-- a command that addresses a tone and stands at a place is all there; none stands at 0
 pub record Inside (s : List ℕ) (place : ℕ) : Type 0 where
+  pub numbered : 0 < place → 1 + numberWidth (getD s place 0) ≤ commandBytes (getD s place 0)
   pub whole : 0 < place → place + commandBytes (getD s place 0) ≤ length s
 
--- the command of a tone, copied from its place; none where it has no place
-abbrev pub toneCopy : List ℕ → (place : ℕ) → List ℕ
-toneCopy s zero = []
-toneCopy s (suc p) = part s (suc p) (commandBytes (getD s (suc p) 0))
+-- how many bytes stand after its tone's number
+abbrev pub carriedBytes : (code : ℕ) → ℕ
+carriedBytes code = commandBytes code - 1 - numberWidth code
 
--- the same of a rest's command, none where the rest is 0
-pub record RestInside (s : List ℕ) (place : ℕ) : Type 0 where
-  pub whole : 0 < place → place + restCommand ≤ length s
+-- the command of tone i that stands at a place
+abbrev pub commandCopy : List ℕ → (i place : ℕ) → List ℕ
+commandCopy s i place =
+    codeOf (tidyWidth i) (shortOf (getD s place 0)) ∷ (bytes (tidyWidth i) i ++ part s (carriedAt s place) (carriedBytes (getD s place 0)))
 
-abbrev pub restCopy : List ℕ → (place : ℕ) → List ℕ
-restCopy s place = cond (eqb (restFrom s place) 0) [] (part s place restCommand)
+-- the one that describes it; none where it has no place
+abbrev pub toneCopy : List ℕ → (i place : ℕ) → List ℕ
+toneCopy s i zero = []
+toneCopy s i (suc p) = commandCopy s i (suc p)
+
+-- the one that gives its rest; none where the rest is 0
+abbrev pub restCopy : List ℕ → (i place : ℕ) → List ℕ
+restCopy s i place = cond (eqb (restFrom s place) 0) [] (commandCopy s i place)
 
 -- the commands of a tone
-abbrev pub entryCopy : List ℕ → (place rest : ℕ) → List ℕ
-entryCopy s place rest = toneCopy s place ++ restCopy s rest
+abbrev pub entryCopy : List ℕ → (i place rest : ℕ) → List ℕ
+entryCopy s i place rest = toneCopy s i place ++ restCopy s i rest
 
 abbrev pub copyAt : (s places rests : List ℕ) → (i : ℕ) → List ℕ
-copyAt s places rests i = entryCopy s (getD places i 0) (getD rests i 0)
+copyAt s places rests i = entryCopy s i (getD places i 0) (getD rests i 0)
 
 abbrev pub copies : (count : ℕ) → (s places rests : List ℕ) → List ℕ
 copies count s places rests = joinedBelow (copyAt s places rests) count

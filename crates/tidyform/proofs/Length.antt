@@ -8,7 +8,7 @@ use native.Mathlib.Omega.{arith}
 use lib.Bits.{bitOr}
 use lib.ListN.{length, getD, set, length-append}
 use lib.Seq.{getD-set-same, getD-set-other, set-out}
-use Rattle.sizes.specs.Sizes.{wordsOf, sizeCommand, gapCommand, tenthsCommand, budgetCommand, silenceCommand, restCommand, endCommand}
+use Rattle.sizes.specs.Sizes.{wordsOf, sizeCommand, gapCommand, tenthsCommand, budgetCommand, silenceCommand, endCommand}
 use Rattle.lists.specs.Joined.{joinedBelow}
 use Rattle.lists.proofs.Joined.{joined-same, length-none, length-next}
 use Rattle.lists.proofs.Stores.{all-same}
@@ -18,8 +18,9 @@ use Rattle.gaps.specs.declared.Gap.the-variants.{Parts, Tenths}
 use Rattle.line.specs.Line.{Entry, undescribed, described, withRest, Line, entryOf}
 use Rattle.rows.specs.declared.Header.{Header}
 use Rattle.rows.specs.declared.Command.the-variants.{Silence}
+use Rattle.rows.specs.Rows.{rest, width}
 use Rattle.sheet.specs.Reading.{headerOf, bareLine, withEntry, effect}
-use Rattle.tidyform.specs.Tidy.{entryBytes, toneBytes, wordBytes, mapBytes, gapBytes, headBytes, tidy}
+use Rattle.tidyform.specs.Tidy.{tidyWidth, entryBytes, toneBytes, wordBytes, mapBytes, gapBytes, headBytes, tidy}
 use Rattle.tidyform.proofs.Parts.{length-rest-le, length-entry, length-word-le}
 
 -- ---- parts that the first entries of a list give, each by its number and its value
@@ -67,7 +68,7 @@ module _ {A : Type 0} (absent : A) (part : ℕ → A → List ℕ) where
 -- ---- a tone
 
 -- a rest adds at most its command to its tone, whatever rest the tone had
-pub rest-adds : (i r : ℕ) (e : Entry) → length (entryBytes i (withRest r e)) ≤ length (entryBytes i e) + restCommand
+pub rest-adds : (i r : ℕ) (e : Entry) → length (entryBytes i (withRest r e)) ≤ length (entryBytes i e) + (1 + width (rest (tidyWidth i) .operands))
 rest-adds i r undescribed = omega arith
 rest-adds i r (described t q) = omega (arith, length-entry i t r, length-entry i t q, length-rest-le i r)
 

@@ -4,6 +4,7 @@
 use mathlib.Core.Path.{_≡_, refl, sym, ap, _∙_}
 use mathlib.Core.Bool.{Bool, false, true}
 use mathlib.Core.List.{List, [], _∷_, _++_}
+use mathlib.Core.Logic.{⊎-elim}
 use mathlib.Core.Option.{some}
 use Prim.Native.Nat.{ℕ, _^_, _≤_, _<_}
 use native.Mathlib.Omega.{arith}
@@ -24,13 +25,14 @@ use Rattle.line.specs.declared.Tone.{Tone}
 use Rattle.line.specs.Tone.{mostCap, kindCost, Cost, NumbersInRange, InRange, RestInRange}
 use Rattle.line.specs.Line.{described, isDescribed}
 use Rattle.line.proofs.Rested.{takes-rest}
+use Rattle.addresses.proofs.Widths.{IsWidth}
 use Rattle.rows.specs.declared.Header.{Header}
 use Rattle.rows.specs.declared.Command.the-variants.{Describe}
 use Rattle.rows.specs.Rows.{Known, Seen, Operand, takesRest, isRestOf, Row, within, toneNumber, restedTone, restOperand, float, lastFloat, map, levelsOf, ratioOf, capAndMask, numbers, rest, withCode}
 use Rattle.command.specs.Format.{today}
 use Rattle.command.proofs.Walk.{seenAt}
 use Rattle.tidyform.specs.Tidy.{readingRow, readingBits, kindRow, kindValues}
-use Rattle.tidyform.proofs.Parts.{row-is-tone}
+use Rattle.tidyform.proofs.Parts.{row-is}
 use Rattle.tidyform.proofs.Written.{after, Good, no-value, value}
 
 -- Operands in range.
@@ -41,14 +43,14 @@ pub ranged : {seen : Seen} {os : List Operand} {vs : List ℕ} (w low high v : �
 ranged {seen} w low high v f a b = value {seen = seen} {o = within w low high} f (λ place. rw (le-ltb v low a, le-ltb high v b))
 
 -- a tone below N, not yet described
-newTone : {seen : Seen} {os : List Operand} {vs : List ℕ} (i : ℕ) → i < 256 → i < seen .header .size → isDescribed (seen .known .entry) ≡ false
-    → Good (after seen i) os vs → Good seen (toneNumber 1 ∷ os) (i ∷ vs)
-newTone {seen} i f a b = value {seen = seen} {o = toneNumber 1} f (λ place. rw (lt-leb (seen .header .size) i a, b))
+newTone : {seen : Seen} {os : List Operand} {vs : List ℕ} (w i : ℕ) → i < 256 ^ w → i < seen .header .size → isDescribed (seen .known .entry) ≡ false
+    → Good (after seen i) os vs → Good seen (toneNumber w ∷ os) (i ∷ vs)
+newTone {seen} w i f a b = value {seen = seen} {o = toneNumber w} f (λ place. rw (lt-leb (seen .header .size) i a, b))
 
 -- a tone below N, described, that has had no rest; and a rest that it takes
-restTone : {seen : Seen} {os : List Operand} {vs : List ℕ} (i : ℕ) → i < 256 → i < seen .header .size → takesRest (seen .known) ≡ true
-    → Good (after seen i) os vs → Good seen (restedTone 1 ∷ os) (i ∷ vs)
-restTone {seen} i f a b = value {seen = seen} {o = restedTone 1} f (λ place. rw (lt-leb (seen .header .size) i a, b))
+restTone : {seen : Seen} {os : List Operand} {vs : List ℕ} (w i : ℕ) → i < 256 ^ w → i < seen .header .size → takesRest (seen .known) ≡ true
+    → Good (after seen i) os vs → Good seen (restedTone w ∷ os) (i ∷ vs)
+restTone {seen} w i f a b = value {seen = seen} {o = restedTone w} f (λ place. rw (lt-leb (seen .header .size) i a, b))
 
 newRest : {seen : Seen} (r : ℕ) → r < 2 ^ 32 → isRestOf (parts (seen .header .gap)) (seen .known .entry) r ≡ true → Good seen (restOperand ∷ []) (r ∷ [])
 newRest {seen} r f a = value {seen = seen} {o = restOperand} f (λ place. rw a) no-value
@@ -76,41 +78,56 @@ bounds most c m small c-high m-high = ranged 1 0 most c (omega arith) (omega ari
 -- A tone's command.
 
 -- it is allowed after the first three commands, and describes the tone
-pub tone-found : (k : Kind) → withCode (today .rows 3) (kindRow k .code) ≡ some (kindRow k)
-tone-found (Pair n) = refl
-tone-found (Single n) = refl
-tone-found (Read n) = by (n .reading)
+pub tone-found : (w : ℕ) → IsWidth w → (k : Kind) → withCode (today .rows 3) (kindRow w k .code) ≡ some (kindRow w k)
+tone-found w wide k = ⊎-elim (λ e. rw e (short k)) (λ e. rw e (twin k)) wide
   where
-    by : (r : Reading) → withCode (today .rows 3) (readingRow r .code) ≡ some (readingRow r)
-    by (Both l) = refl
-    by (Ratio x) = refl
+    short : (k : Kind) → withCode (today .rows 3) (kindRow 1 k .code) ≡ some (kindRow 1 k)
+    short (Pair n) = refl
+    short (Single n) = refl
+    short (Read n) = by (n .reading)
+      where
+        by : (r : Reading) → withCode (today .rows 3) (readingRow 1 r .code) ≡ some (readingRow 1 r)
+        by (Both l) = refl
+        by (Ratio x) = refl
 
-pub tone-does : (k : Kind) (h : Header) (vs : List ℕ) → kindRow k .does h vs ≡ Describe (getD vs 0 0)
-tone-does k h vs = ap (λ (r : Row). r .does h vs) (row-is-tone k)
+    twin : (k : Kind) → withCode (today .rows 3) (kindRow 2 k .code) ≡ some (kindRow 2 k)
+    twin (Pair n) = refl
+    twin (Single n) = refl
+    twin (Read n) = by (n .reading)
+      where
+        by : (r : Reading) → withCode (today .rows 3) (readingRow 2 r .code) ≡ some (readingRow 2 r)
+        by (Both l) = refl
+        by (Ratio x) = refl
+
+pub rest-found : (w : ℕ) → IsWidth w → withCode (today .rows 3) (rest w .code) ≡ some (rest w)
+rest-found w = ⊎-elim (λ e. rw e) (λ e. rw e)
+
+pub tone-does : (w : ℕ) (k : Kind) (h : Header) (vs : List ℕ) → kindRow w k .does h vs ≡ Describe (getD vs 0 0)
+tone-does w k h vs = ap (λ (r : Row). r .does h vs) (row-is w k)
 
 -- it meets no refusal
-module _ (h : Header) (known : Known) (i : ℕ) (small : i < 256) (of-line : i < h .size) (new : isDescribed (known .entry) ≡ false) where
+module _ (h : Header) (known : Known) (w i : ℕ) (small : i < 256 ^ w) (of-line : i < h .size) (new : isDescribed (known .entry) ≡ false) where
   good-numbers : (isSingle : Bool) (n : Numbers) → NumbersInRange n → mostCap isSingle < 256 → n .cap ≤ mostCap isSingle → n .mask ≤ mostPower
-      → Good (seenAt h known) (toneNumber 1 ∷ numbers isSingle) (i ∷ n .noise ∷ n .gain ∷ n .cap ∷ n .mask ∷ [])
+      → Good (seenAt h known) (toneNumber w ∷ numbers isSingle) (i ∷ n .noise ∷ n .gain ∷ n .cap ∷ n .mask ∷ [])
   good-numbers isSingle n I s c m =
-      newTone i small of-line new
+      newTone w i small of-line new
       (ranged 2 1 65535 (n .noise) (omega (arith, I .noise-high)) (I .noise-low) (I .noise-high)
       (ranged 2 1 65535 (n .gain) (omega (arith, I .gain-high)) (I .gain-low) (I .gain-high)
       (bounds (mostCap isSingle) (n .cap) (n .mask) s c m)))
 
   good-reading : (r : Reading) (c m : ℕ) → ReadingInRange r → readingCost (parts (h .gap)) r ≤ mostCost → c ≤ pairCap → m ≤ mostPower
-      → Good (seenAt h known) (readingRow r .operands) (i ∷ (readingBits r ++ (c ∷ m ∷ [])))
+      → Good (seenAt h known) (readingRow w r .operands) (i ∷ (readingBits r ++ (c ∷ m ∷ [])))
   good-reading (Both l) c m I high c-high m-high =
       let u = I .usable in
       let over : isOver (parts (h .gap)) (levelsOf (i ∷ toBits binary32 (l .noise) ∷ toBits binary32 (l .gain) ∷ [])) ≡ false =
       rw (float-back (l .noise) (u .0), float-back (l .gain) (u .1)) (not-over (parts (h .gap)) (Both l) (I .ratio-finite) high) in
-      newTone i small of-line new (usable (l .noise) (u .0) (lastUsable 4 levelsOf (l .gain) (u .1) over (bounds pairCap c m (omega arith) c-high m-high)))
+      newTone w i small of-line new (usable (l .noise) (u .0) (lastUsable 4 levelsOf (l .gain) (u .1) over (bounds pairCap c m (omega arith) c-high m-high)))
   good-reading (Ratio x) c m I high c-high m-high =
       let over : isOver (parts (h .gap)) (ratioOf (i ∷ toBits binary32 x ∷ [])) ≡ false =
       rw (float-back x (I .usable)) (not-over (parts (h .gap)) (Ratio x) (I .ratio-finite) high) in
-      newTone i small of-line new (lastUsable 0 ratioOf x (I .usable) over (bounds pairCap c m (omega arith) c-high m-high))
+      newTone w i small of-line new (lastUsable 0 ratioOf x (I .usable) over (bounds pairCap c m (omega arith) c-high m-high))
 
-  pub good-tone : (k : Kind) → InRange (parts (h .gap)) (record { kind = k }) → Good (seenAt h known) (kindRow k .operands) (i ∷ kindValues k)
+  pub good-tone : (k : Kind) → InRange (parts (h .gap)) (record { kind = k }) → Good (seenAt h known) (kindRow w k .operands) (i ∷ kindValues k)
   unfolding kindCost
   good-tone (Pair n) I = good-numbers false n (I .kind) (omega arith) (I .bounds .cap-high) (I .bounds .mask-high)
   good-tone (Single n) I = good-numbers true n (I .kind) (omega arith) (I .bounds .cap-high) (I .bounds .mask-high)
@@ -118,7 +135,7 @@ module _ (h : Header) (known : Known) (i : ℕ) (small : i < 256) (of-line : i <
 
 -- Its rest's.
 
-pub good-rest : (h : Header) (known : Known) (i : ℕ) (t : Tone) (old r : ℕ) → i < 256 → i < h .size → known .entry ≡ described t old → known .rested ≡ false
-    → InRange (parts (h .gap)) t → RestInRange (parts (h .gap)) t r → Good (seenAt h known) (rest .operands) (i ∷ r ∷ [])
-good-rest h known i t old r small of-line is new I R =
-    restTone i small of-line (rw (is, new)) (newRest r (omega (arith, R .below-cost, I .cost .high)) (rw is (takes-rest (parts (h .gap)) t r R)))
+pub good-rest : (h : Header) (known : Known) (w i : ℕ) (t : Tone) (old r : ℕ) → i < 256 ^ w → i < h .size → known .entry ≡ described t old → known .rested ≡ false
+    → InRange (parts (h .gap)) t → RestInRange (parts (h .gap)) t r → Good (seenAt h known) (rest w .operands) (i ∷ r ∷ [])
+good-rest h known w i t old r small of-line is new I R =
+    restTone w i small of-line (rw (is, new)) (newRest r (omega (arith, R .below-cost, I .cost .high)) (rw is (takes-rest (parts (h .gap)) t r R)))

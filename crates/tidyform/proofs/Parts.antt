@@ -2,59 +2,100 @@
 use mathlib.Core.Path.{_≡_, refl, ap, _∙_}
 use mathlib.Core.Bool.{Bool, true, false, cond}
 use mathlib.Core.List.{List, [], _∷_, _++_}
-use Prim.Native.Nat.{ℕ, _+_, _≤_}
+use mathlib.Core.Logic.{inl, inr}
+use Prim.Native.Nat.{ℕ, _+_, _^_, _≤_, _<_}
 use native.Mathlib.Nat.{le-trans}
 use native.Mathlib.Omega.{arith}
-use borrow.Author.Tests.{eq-eqb, ne-eqb}
-use lib.Dec.{eqb}
+use borrow.Author.Tests.{ltb-true, ltb-false, eq-eqb, ne-eqb}
+use lib.Dec.{ltb, eqb}
 use lib.ListN.{length, getD, length-append}
-use Rattle.sizes.specs.Sizes.{silenceCommand, restCommand}
+use Rattle.sizes.specs.Sizes.{silenceCommand}
+use Rattle.lists.proofs.Tests.{by-test}
+use Rattle.bigendian.specs.Number.{byteBase}
 use Rattle.bigendian.proofs.Numbers.{length-bytes}
+use Rattle.addresses.specs.Addresses.{twin}
+use Rattle.addresses.proofs.Widths.{IsWidth}
 use Rattle.readings.specs.declared.Reading.{Reading}
 use Rattle.readings.specs.declared.Reading.the-variants.{Both, Ratio}
 use Rattle.line.specs.declared.Kind.{Kind}
 use Rattle.line.specs.declared.Kind.the-variants.{Pair, Single, Read}
 use Rattle.line.specs.declared.Tone.{Tone}
 use Rattle.line.specs.Line.{Entry, undescribed, described}
-use Rattle.rows.specs.Rows.{rest, width}
-use Rattle.rows.specs.Codes.{toneRow, silenceRow}
-use Rattle.tidyform.specs.Tidy.{written, readingRow, readingBits, kindRow, kindValues, restBytes, entryBytes, toneBytes, wordBytes, mapBytes}
+use Rattle.rows.specs.Rows.{describing, rest, width}
+use Rattle.rows.specs.Codes.{toneOperands, silenceRow}
+use Rattle.tidyform.specs.Tidy.{written, tidyWidth, readingRow, readingBits, kindRow, kindValues, restBytes, entryBytes, toneBytes, wordBytes, mapBytes}
 
 -- A command.
 
--- every row of a tone has the tone's number first
-pub row-is-tone : (k : Kind) → kindRow k ≡ toneRow (kindRow k .code)
-row-is-tone (Pair n) = refl
-row-is-tone (Single n) = refl
-row-is-tone (Read n) = by (n .reading)
+-- the width that a tidy sheet has for a tone is enough for its number, and no other that is enough is smaller
+module _ (i : ℕ) where
+  abbrev by-size : (P : ℕ → Type 0) → (i < byteBase → P 1) → (byteBase ≤ i → P 2) → P (tidyWidth i)
+  by-size P short twin = by-test P (ltb i byteBase) (λ e. short (ltb-true i byteBase e)) (λ e. twin (ltb-false i byteBase e))
+
+  pub tidy-is-width : IsWidth (tidyWidth i)
+  tidy-is-width = by-size IsWidth (λ h. inl refl) (λ h. inr refl)
+
+  pub tidy-low : 1 ≤ tidyWidth i
+  tidy-low = by-size (λ w. 1 ≤ w) (λ h. omega arith) (λ h. omega arith)
+
+  pub tidy-fits : i < byteBase ^ 2 → i < byteBase ^ tidyWidth i
+  tidy-fits small = by-size (λ w. i < byteBase ^ w) (λ h. omega arith) (λ h. omega arith)
+
+  pub tidy-least : (w : ℕ) → IsWidth w → i < byteBase ^ w → tidyWidth i ≤ w
+  tidy-least w (inl e) small = by-size (λ v. v ≤ w) (λ h. omega arith) (λ h. absurd (omega (arith, rw e at small)))
+  tidy-least w (inr e) small = by-size (λ v. v ≤ w) (λ h. omega arith) (λ h. omega arith)
+
+-- the byte of the short command that describes a tone of a kind; what it carries after the tone's number is the byte's
+abbrev pub readingShort : Reading → ℕ
+readingShort (Both l) = 0x09
+readingShort (Ratio x) = 0x0a
+
+abbrev pub kindShort : Kind → ℕ
+kindShort (Pair n) = 0x04
+kindShort (Single n) = 0x05
+kindShort (Read n) = readingShort (n .reading)
+
+pub row-is : (w : ℕ) (k : Kind) → kindRow w k ≡ describing w (kindShort k) (toneOperands (kindShort k))
+row-is w (Pair n) = refl
+row-is w (Single n) = refl
+row-is w (Read n) = by (n .reading)
   where
-    by : (r : Reading) → readingRow r ≡ toneRow (readingRow r .code)
+    by : (r : Reading) → readingRow w r ≡ describing w (readingShort r) (toneOperands (readingShort r))
     by (Both l) = refl
     by (Ratio x) = refl
 
--- a tone's command has the bytes of its kind's row
-pub length-described : (i : ℕ) (k : Kind) → length (written (kindRow k) (i ∷ kindValues k)) ≡ 1 + width (kindRow k .operands)
-length-described i (Pair n) = simp (length-append, length-bytes)
-length-described i (Single n) = simp (length-append, length-bytes)
-length-described i (Read n) = by (n .reading)
+pub short-small : (k : Kind) → kindShort k < twin
+short-small (Pair n) = omega arith
+short-small (Single n) = omega arith
+short-small (Read n) = by (n .reading)
   where
-    by : (r : Reading) → length (written (readingRow r) (i ∷ (readingBits r ++ (n .cap ∷ n .mask ∷ [])))) ≡ 1 + width (readingRow r .operands)
-    by (Both l) = simp (length-append, length-bytes)
-    by (Ratio x) = simp (length-append, length-bytes)
+    by : (r : Reading) → readingShort r < twin
+    by (Both l) = omega arith
+    by (Ratio x) = omega arith
+
+-- a tone's command has the bytes of its kind's row
+pub length-described : (w i : ℕ) (k : Kind) → length (written (kindRow w k) (i ∷ kindValues k)) ≡ 1 + width (kindRow w k .operands)
+length-described w i (Pair n) = simp (length-append, length-bytes) (omega arith)
+length-described w i (Single n) = simp (length-append, length-bytes) (omega arith)
+length-described w i (Read n) = by (n .reading)
+  where
+    by : (r : Reading) → length (written (readingRow w r) (i ∷ (readingBits r ++ (n .cap ∷ n .mask ∷ [])))) ≡ 1 + width (readingRow w r .operands)
+    by (Both l) = simp (length-append, length-bytes) (omega arith)
+    by (Ratio x) = simp (length-append, length-bytes) (omega arith)
 
 -- a command that a test leaves out has at most its bytes
 length-unless : (t : Bool) (command : List ℕ) → length (cond t [] command) ≤ length command
 length-unless true command = omega arith
 length-unless false command = omega arith
 
-pub length-rest-le : (i r : ℕ) → length (restBytes i r) ≤ restCommand
-length-rest-le i r = le-trans (length-unless (eqb r 0) (written rest (i ∷ r ∷ []))) (simp (length-append, length-bytes) (omega arith))
+pub length-rest-le : (i r : ℕ) → length (restBytes i r) ≤ 1 + width (rest (tidyWidth i) .operands)
+length-rest-le i r = le-trans (length-unless (eqb r 0) (written (rest (tidyWidth i)) (i ∷ r ∷ []))) (simp (length-append, length-bytes) (omega arith))
 
 -- a described tone has its command's bytes and its rest's
-pub length-entry : (i : ℕ) (t : Tone) (r : ℕ) → length (entryBytes i (described t r)) ≡ 1 + width (kindRow (t .kind) .operands) + length (restBytes i r)
+pub length-entry : (i : ℕ) (t : Tone) (r : ℕ) → length (entryBytes i (described t r)) ≡ 1 + width (kindRow (tidyWidth i) (t .kind) .operands) + length (restBytes i r)
 length-entry i t r =
-    let command = written (kindRow (t .kind)) (i ∷ kindValues (t .kind)) in
-    omega (arith, length-append command (restBytes i r), length-described i (t .kind))
+    let command = written (kindRow (tidyWidth i) (t .kind)) (i ∷ kindValues (t .kind)) in
+    omega (arith, length-append command (restBytes i r), length-described (tidyWidth i) i (t .kind))
 
 pub no-word : (word : ℕ) {map : ℕ} → map ≡ 0 → wordBytes word map ≡ []
 no-word word {map} e = rw (eq-eqb map 0 e)

@@ -9,17 +9,18 @@ use mathlib.Core.Path.{_≡_, refl, sym, ap, subst, _∙_}
 use mathlib.Core.Bool.{Bool, true, false, cond}
 use mathlib.Core.List.{List, [], _∷_, _++_, append-assoc}
 use mathlib.Core.Logic.{inl, inr}
-use Prim.Native.Nat.{ℕ, zero, suc, _+_, _≤_, _<_}
+use Prim.Native.Nat.{ℕ, zero, suc, _+_, _-_, _^_, _≤_, _<_}
 use native.Mathlib.Nat.{eq-or-lt-of-le, le-of-suc-le-suc, not-suc-le-zero}
 use native.Mathlib.Omega.{arith}
 use borrow.Author.Tests.{le-ltb, eqb-true, ne-eqb}
 use lib.Dec.{eqb}
 use lib.ListN.{length, getD, set, replicate, length-set, length-replicate}
 use lib.Seq.{getD-set-same, getD-set-other, set-getD, set-set, ext-getD}
-use Rattle.sizes.specs.Sizes.{mostPower, mostWords, mostTones, longestSheet, restCommand, wordsOf}
+use Rattle.sizes.specs.Sizes.{mostPower, mostWords, mostTones, longestSheet, wordsOf}
 use Rattle.lists.specs.Joined.{joinedBelow}
 use Rattle.lists.proofs.Stores.{all-same}
-use Rattle.bigendian.proofs.Numbers.{number-from, bytes-one}
+use Rattle.bigendian.specs.Number.{byteBase}
+use Rattle.bigendian.proofs.Numbers.{number-there}
 use Rattle.silence.proofs.Maps.{clear-beyond}
 use Rattle.gaps.specs.declared.Gap.{Gap}
 use Rattle.gaps.specs.declared.Gap.the-variants.{Parts, Tenths}
@@ -30,15 +31,17 @@ use Rattle.rows.specs.declared.Header.{Header}
 use Rattle.rows.specs.declared.Command.the-variants.{Rest, Silence}
 use Rattle.rows.specs.Rows.{Row, gap, tenths, budget, rest, end}
 use Rattle.rows.specs.Codes.{sizeRow, silenceRow}
+use Rattle.addresses.specs.Addresses.{codeOf, addressed}
+use Rattle.addresses.proofs.Widths.{IsWidth, width-back}
 use Rattle.places.specs.Places.{restAt}
 use Rattle.command.specs.Format.{today}
 use Rattle.sheet.specs.Reading.{accepted, bareLine, withEntry, SoFar, nothing, restedAfter, go, afterCommand, saidIn, said, reading}
 use Rattle.sheet.proofs.Rests.{is-accepted}
 use Rattle.sheet.proofs.Sound.{Sound}
-use Rattle.tidyform.specs.Tidy.{written, kindRow, kindValues, restBytes, entryBytes, wordBytes, toneBytes, mapBytes, gapBytes, headBytes, tidy}
-use Rattle.tidyform.proofs.Parts.{row-is-tone}
-use Rattle.tidyform.proofs.Written.{seenIn, Good, no-value, Stand, Reads, next, reads-written, reads-end}
-use Rattle.tidyform.proofs.Operands.{ranged, newMap, good-tone, tone-found, tone-does, good-rest}
+use Rattle.tidyform.specs.Tidy.{written, tidyWidth, kindRow, kindValues, restBytes, entryBytes, wordBytes, toneBytes, mapBytes, gapBytes, headBytes, tidy}
+use Rattle.tidyform.proofs.Parts.{tidy-is-width, tidy-fits, kindShort, row-is, short-small}
+use Rattle.tidyform.proofs.Written.{seenIn, Good, no-value, Stand, Reads, next, addresses-written, reads-written, reads-end}
+use Rattle.tidyform.proofs.Operands.{ranged, newMap, good-tone, tone-found, rest-found, tone-does, good-rest}
 use Rattle.tidyform.proofs.Tones.{tone-stands}
 
 -- A list filled from the front.
@@ -107,54 +110,73 @@ module _ (l : Line) (S : Sound l) where
 
   module _ (n : ℕ) (t : Tone) (r : ℕ) (q : List ℕ) (h : n < l .size) (is : entryOf l n ≡ described t r) (I : EntryInRange (gapOf l) (described t r))
       (rested : ℕ → Bool) (unrested : Unrested n rested) where
+    -- the bytes of its number
+    abbrev w : ℕ
+    w = tidyWidth n
+
+    wide : IsWidth w
+    wide = tidy-is-width n
+
     abbrev own : Row
-    own = kindRow (t .kind)
+    own = kindRow w (t .kind)
 
     abbrev carried : List ℕ
     carried = n ∷ kindValues (t .kind)
+
+    abbrev rests : Row
+    rests = rest w
 
     -- after its own command tone n has no rest
     abbrev between : SoFar
     between = record { line = withEntry (part l n 0) n (described t 0); rested = rested }
 
-    small : n < 256
-    small = omega (arith, S .in-range .size-high)
+    small : n < byteBase ^ w
+    small = tidy-fits n (omega (arith, S .in-range .size-high))
+
+    -- either command addresses it
+    own-addresses : (p : List ℕ) → addressed (written own carried ++ p) 0 ≡ n
+    own-addresses p =
+        let short = kindShort (t .kind) in
+        rw (row-is w (t .kind)) (addresses-written (codeOf w short) w n _ (width-back w short wide (short-small (t .kind))) small p)
+
+    rest-addresses : (p : List ℕ) → addressed (written rests (n ∷ r ∷ []) ++ p) 0 ≡ n
+    rest-addresses p = addresses-written (rests .code) w n _ (width-back w 0x0b wide (omega arith)) small p
 
     tone-good : (p : List ℕ) → Good (seenIn (along l n 0 rested) (written own carried ++ p)) (own .operands) carried
     unfolding part
     tone-good p =
         let new = absent-from undescribed (l .size) (l .entries) n n (omega arith) in
-        good-tone _ _ n small h (rw (row-is-tone (t .kind), bytes-one n small, new)) (t .kind) (I .0)
+        good-tone _ _ w n small h (rw (own-addresses p, new)) (t .kind) (I .0)
 
     there : entryOf (between .line) n ≡ described t 0
     unfolding part
     there = getD-set-same (part l n 0 .entries) n (described t 0) undescribed (omega (arith, length-filled undescribed (l .size) (l .entries) n))
 
-    rest-good : Good (seenIn between (written rest (n ∷ r ∷ []) ++ q)) (rest .operands) (n ∷ r ∷ [])
+    rest-good : Good (seenIn between (written rests (n ∷ r ∷ []) ++ q)) (rests .operands) (n ∷ r ∷ [])
     unfolding part
-    rest-good = good-rest _ _ n t 0 r small h (rw (bytes-one n small) there) (rw (bytes-one n small) (unrested n (omega arith))) (I .0) (I .1)
+    rest-good = good-rest _ _ w n t 0 r small h (rw (rest-addresses q) there) (rw (rest-addresses q) (unrested n (omega arith))) (I .0) (I .1)
 
-    rest-goes : (s : List ℕ) (at to : ℕ) → next rest at ≤ length s → Stand s (at + 1) (rest .operands) (n ∷ r ∷ [])
+    rest-goes : (s : List ℕ) (at to : ℕ) → getD s at 0 ≡ rests .code → next rests at ≤ length s → Stand s (at + 1) (rests .operands) (n ∷ r ∷ [])
         → afterCommand (Rest n) to s at 3 between ≡ go to 3 (along l (suc n) 0 (restedAfter (Rest n) rested))
     unfolding part filled
-    rest-goes s at to whole st =
-        let value : restAt s at ≡ r = number-from s at restCommand 2 4 (at + 1 + 1) (omega arith) (omega arith) (omega arith) (omega arith) ∙ st .1 .0 in
+    rest-goes s at to code whole st =
+        let value : restAt s at ≡ r = rw (code, width-back w 0x0b wide (omega arith)) (number-there s (at + 1 + w) 4 (omega arith) (omega arith) ∙ st .1 .0) in
         rw (there, value, is, set-set)
 
     -- its rest's, if it has one, is the next
-    rest-ends : (none : Bool) → eqb r 0 ≡ none → Ends l q (suc n) 0 → Reads (cond none [] (written rest (n ∷ r ∷ [])) ++ q) 3 between (accepted l)
+    rest-ends : (none : Bool) → eqb r 0 ≡ none → Ends l q (suc n) 0 → Reads (cond none [] (written rests (n ∷ r ∷ [])) ++ q) 3 between (accepted l)
     unfolding part filled
     rest-ends true e ends = rw (is, eqb-true r 0 e) at (ends rested (λ i k. unrested i (omega arith)))
     rest-ends false e ends =
-        reads-written between 3 rest (n ∷ r ∷ []) q refl rest-good (λ s at code whole st. rest-goes s at _ whole st)
+        reads-written between 3 rests (n ∷ r ∷ []) q (rest-found w wide) rest-good (λ s at code whole st. rest-goes s at _ code whole st)
         (ends (restedAfter (Rest n) rested) (λ i k. rw (ne-eqb i n (λ e. omega arith)) (unrested i (omega arith))))
 
     tone-ends : Ends l q (suc n) 0 → Reads (entryBytes n (described t r) ++ q) 3 (along l n 0 rested) (accepted l)
     tone-ends ends =
         let more : List ℕ = restBytes n r ++ q in
         subst (λ (p : List ℕ). Reads p 3 (along l n 0 rested) (accepted l)) (sym (append-assoc (written own carried) (restBytes n r) q))
-        (reads-written (along l n 0 rested) 3 own carried more (tone-found (t .kind)) (tone-good more)
-        (λ s at code whole st. rw (tone-does (t .kind), tone-stands s at n (t .kind) (I .0 .kind) code whole st))
+        (reads-written (along l n 0 rested) 3 own carried more (tone-found w wide (t .kind)) (tone-good more)
+        (λ s at code whole st. rw (tone-does w (t .kind), tone-stands s at w n (t .kind) wide (I .0 .kind) code whole st))
         (rest-ends (eqb r 0) refl ends))
 
   entry-ends : (n : ℕ) (e : Entry) (q : List ℕ) → n < l .size → entryOf l n ≡ e → EntryInRange (gapOf l) e → Ends l q (suc n) 0
@@ -186,7 +208,7 @@ module _ (l : Line) (S : Sound l) where
   map-good n rested q h =
       let v : ℕ = getD (l .maps) n 0 in
       let k : n < mostWords = omega (arith, S .in-range .size-high) in
-      ranged 1 0 7 n (omega arith) (omega arith) (omega arith) (newMap v (S .maps-small n) (clear-beyond (l .size) n v (λ k b. S .maps-within n k)))
+      ranged 1 0 (mostWords - 1) n (omega arith) (omega arith) (omega arith) (newMap v (S .maps-small n) (clear-beyond (l .size) n v (λ k b. S .maps-within n k)))
 
   map-ends : (n : ℕ) (empty : Bool) (q : List ℕ) → n < wordsOf (l .size) → eqb (getD (l .maps) n 0) 0 ≡ empty → Ends l q (l .size) (suc n)
       → Ends l (cond empty [] (written silenceRow (n ∷ getD (l .maps) n 0 ∷ [])) ++ q) (l .size) n

@@ -2,27 +2,31 @@
 -- Assumes nothing.
 use mathlib.Core.Bool.{true, false}
 use mathlib.Core.List.{List, []}
+use mathlib.Core.Logic.{inl, inr}
 use mathlib.Core.Path.{_≡_, refl, ap, sym, _∙_}
 use Prim.Native.Nat.{ℕ, zero, suc, _+_, _≤_}
 use native.Mathlib.Nat.{le-trans}
 use native.Mathlib.Omega.{arith}
 use lib.ListN.{length, getD}
 use Rattle.bigendian.specs.Number.{number}
-use Rattle.sizes.specs.Sizes.{sizeCommand, restCommand, longestSheet}
+use Rattle.bigendian.proofs.Numbers.{number-lt}
+use Rattle.sizes.specs.Sizes.{sizeCommand, longestSheet}
 use Rattle.line.specs.Line.{Line, entryOf}
 use Rattle.rows.specs.declared.Header.{Header}
 use Rattle.rows.specs.Rows.{Operand, describing, numbers, levelOperands, ratioOperands, rest, width}
 use Rattle.rows.specs.Codes.{silenceRow}
+use Rattle.addresses.specs.Addresses.{codeOf, shortOf, carriedAt}
+use Rattle.addresses.proofs.Widths.{IsWidth}
 use Rattle.places.specs.Places.{kindAt, toneAt, restAt}
 use Rattle.command.specs.Format.{today}
-use Rattle.command.proofs.Walk.{Each, values}
+use Rattle.command.proofs.Walk.{Each, first-value}
 use Rattle.sheet.specs.Reading.{accepted, SoFar, reading}
 use Rattle.sheet.proofs.Walk.{Leads, said-by}
 use Rattle.sheet.proofs.Rests.{accepted-is}
 use Rattle.sheet.proofs.Sound.{Bytes, accepted-sound, accepted-fits, accepted-short}
-use Rattle.tidyform.specs.Tidy.{kindRow, gapBytes, tidy}
+use Rattle.tidyform.specs.Tidy.{tidyWidth, kindRow, gapBytes, tidy}
 use Rattle.tidyform.specs.Claims.{TidyKeeps}
-use Rattle.tidyform.proofs.Parts.{length-entry}
+use Rattle.tidyform.proofs.Parts.{tidy-least, length-entry}
 use Rattle.tidyform.proofs.Length.{length-parts, length-tenths, length-head, rest-adds, tidy-bare, tidy-entry, tidy-silence}
 use Rattle.tidyform.proofs.RoundTrip.{tidy-reads}
 
@@ -34,9 +38,34 @@ Long at (suc zero) x = sizeCommand ≤ at
 Long at (suc (suc zero)) x = sizeCommand + length (gapBytes (x .line .gap)) ≤ at
 Long at (suc (suc (suc n))) x = length (tidy (x .line)) ≤ at + 1
 
-module _ (s : List ℕ) where
+module _ (s : List ℕ) (b : Bytes s) where
   abbrev NoLonger : Line → Type 0
   NoLonger l = length (tidy l) ≤ length s
+
+  -- a tone's number has no more bytes in the tidy form than where it was read
+  narrow : (at w : ℕ) → IsWidth w → tidyWidth (number s at w) ≤ w
+  narrow at w wide = tidy-least (number s at w) w wide (number-lt s at w (λ i k. b (at + i)))
+
+  module _ (at n : ℕ) (x : SoFar) (h : Long at (suc (suc (suc n))) x) where
+    describes : (w short : ℕ) (os : List Operand) → IsWidth w → shortOf (codeOf w short) ≡ short
+        → ((v from : ℕ) → width (kindRow v (kindAt short s from) .operands) ≡ v + width os)
+        → Leads today s Long NoLonger at (suc (suc (suc n))) x (describing w short os)
+    describes w short os wide back widths is inside p =
+        let i = number s (at + 1) w in
+        let first = first-value i [] s (at + 1 + w) os in
+        let same = ap (λ (c : ℕ). width (kindRow (tidyWidth i) (kindAt c s (carriedAt s at)) .operands)) (ap shortOf is ∙ back) ∙ widths (tidyWidth i) (carriedAt s at) in
+        rw first
+        (le-trans (tidy-entry (x .line) i _ (1 + width (describing w short os .operands)) (omega (arith, length-entry i (toneAt s at) 0, same, narrow (at + 1) w wide)))
+        (omega arith))
+
+    rests : (w : ℕ) → IsWidth w → Leads today s Long NoLonger at (suc (suc (suc n))) x (rest w)
+    rests w wide is inside p =
+        let i = number s (at + 1) w in
+        le-trans (tidy-entry (x .line) i _ (1 + width (rest (tidyWidth i) .operands)) (rest-adds i (restAt s at) (entryOf (x .line) i)))
+        (omega (arith, narrow (at + 1) w wide))
+
+    silences : Leads today s Long NoLonger at (suc (suc (suc n))) x silenceRow
+    silences is inside p = le-trans (tidy-silence (x .line) s at _ _) (omega arith)
 
   long : (at stage : ℕ) (x : SoFar) → Long at stage x → Each (Leads today s Long NoLonger at stage x) (today .rows stage)
   long at zero x h = (λ is inside p. omega arith, tt)
@@ -45,27 +74,44 @@ module _ (s : List ℕ) where
       let k : Header = record { size = x .line .size; gap = x .line .gap; budget = number s (at + 1) 8 } in
       (λ is inside p. omega (arith, tidy-bare k, length-head k), tt)
   long at (suc (suc (suc n))) x h = (
-    describes 4 (numbers false) refl,
+    tone 1 4 (numbers false) one refl (λ v from. refl),
     (
-      describes 5 (numbers true) refl,
-      (silences, (λ is inside p end. omega arith, (describes 9 levelOperands refl, (describes 10 ratioOperands refl, (rests, tt))))),
+      tone 1 5 (numbers true) one refl (λ v from. refl),
+      (
+        silences at n x h,
+        (
+          λ is inside p end. omega arith,
+          (
+            tone 1 9 levelOperands one refl (λ v from. refl),
+            (
+              tone 1 10 ratioOperands one refl (λ v from. refl),
+              (
+                rests at n x h 1 one,
+                (
+                  tone 2 4 (numbers false) two refl (λ v from. refl),
+                  (
+                    tone 2 5 (numbers true) two refl (λ v from. refl),
+                    (tone 2 9 levelOperands two refl (λ v from. refl), (tone 2 10 ratioOperands two refl (λ v from. refl), (rests at n x h 2 two, tt))),
+                  ),
+                ),
+              ),
+            ),
+          ),
+        ),
+      ),
     ),
   )
     where
-      describes : (code : ℕ) (os : List Operand) → width (kindRow (kindAt code s at) .operands) ≡ width (describing code os .operands)
-          → Leads today s Long NoLonger at (suc (suc (suc n))) x (describing code os)
-      describes code os e is inside p =
-          let i = getD (values [] s (at + 1) (describing code os .operands)) 0 0 in
-          let same = ap (λ (c : ℕ). width (kindRow (kindAt c s at) .operands)) is ∙ e in
-          le-trans (tidy-entry (x .line) i _ (1 + width (describing code os .operands)) (omega (arith, length-entry i (toneAt s at) 0))) (omega arith)
+      one : IsWidth 1
+      one = inl refl
 
-      rests : Leads today s Long NoLonger at (suc (suc (suc n))) x rest
-      rests is inside p =
-          let i = number s (at + 1) 1 in
-          le-trans (tidy-entry (x .line) i _ restCommand (rest-adds i (restAt s at) (entryOf (x .line) i))) (omega arith)
+      two : IsWidth 2
+      two = inr refl
 
-      silences : Leads today s Long NoLonger at (suc (suc (suc n))) x silenceRow
-      silences is inside p = le-trans (tidy-silence (x .line) s at _ _) (omega arith)
+      tone : (w short : ℕ) (os : List Operand) → IsWidth w → shortOf (codeOf w short) ≡ short
+          → ((v from : ℕ) → width (kindRow v (kindAt short s from) .operands) ≡ v + width os)
+          → Leads today s Long NoLonger at (suc (suc (suc n))) x (describing w short os)
+      tone = describes at n x h
 
   tidy-no-longer : (l : Line) → reading s ≡ accepted l → NoLonger l
   tidy-no-longer l e = said-by today s Long NoLonger long tt l (accepted-is today s l e .says)
@@ -74,13 +120,13 @@ pub tidy-keeps : (s : List ℕ) → Bytes s → (l : Line) → reading s ≡ acc
 tidy-keeps s b l e = record {
   keeps-line = same;
   returns-tidy = λ k f. ap tidy (line-of k (sym f ∙ same));
-  no-longer = tidy-no-longer s l e;
+  no-longer = tidy-no-longer s b l e;
   short = short;
 }
   where
     -- a sheet is no longer than this, and its tidy form no longer than it
     short : length (tidy l) ≤ longestSheet
-    short = le-trans (tidy-no-longer s l e) (accepted-short s l e)
+    short = le-trans (tidy-no-longer s b l e) (accepted-short s l e)
 
     same : reading (tidy l) ≡ accepted l
     same = tidy-reads l (accepted-sound s b l e) short (accepted-fits s l e)

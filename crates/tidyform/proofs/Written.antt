@@ -14,7 +14,7 @@ use Rattle.bigendian.specs.Number.{number, bytes}
 use Rattle.bigendian.proofs.Numbers.{number-same, number-here, length-bytes}
 use Rattle.rows.specs.declared.Command.{Command}
 use Rattle.rows.specs.Rows.{Seen, Operand, Row, withCode, width, operandsFrom, rowAt, end}
-use Rattle.places.specs.Places.{addressed}
+use Rattle.addresses.specs.Addresses.{numberWidth, addressed}
 use Rattle.command.specs.Format.{today, decoded}
 use Rattle.command.proofs.Walk.{seenAt}
 use Rattle.sheet.specs.Reading.{Meaning, accepted, headerOf, SoFar, go, afterCommand, knownOf, commandIn, readFrom}
@@ -34,6 +34,23 @@ number-stands s q at w v h e = number-same s (drop at s) at 0 w same ∙ ap (λ 
     same i l =
         let z : 0 + i ≡ i = omega arith in
         rw (z, getD-drop)
+
+-- the tone that is addressed there
+addressed-drop : (s : List ℕ) (at : ℕ) → addressed s at ≡ addressed (drop at s) 0
+addressed-drop s at =
+    let here : getD s at 0 ≡ getD (drop at s) 0 0 = ap (λ (k : ℕ). getD s k 0) (omega arith) ∙ sym (getD-drop at s 0 0) in
+    number-same s (drop at s) (at + 1) (0 + 1) (numberWidth (getD s at 0)) (λ i l. next i)
+    ∙ ap (λ (code : ℕ). number (drop at s) (0 + 1) (numberWidth code)) here
+  where
+    next : (i : ℕ) → getD s (at + 1 + i) 0 ≡ getD (drop at s) (0 + 1 + i) 0
+    next i =
+        let z : at + 1 + i ≡ at + (0 + 1 + i) = omega arith in
+        rw (z, getD-drop)
+
+-- a written command addresses the tone whose number stands first
+pub addresses-written : (code w i : ℕ) (rest : List ℕ) → numberWidth code ≡ w → i < 256 ^ w → (q : List ℕ) → addressed ((code ∷ (bytes w i ++ rest)) ++ q) 0 ≡ i
+addresses-written code w i rest wide small q =
+    rw (wide, append-assoc (bytes w i) rest q) (number-here (code ∷ []) (rest ++ q) w i 1 refl small)
 
 -- what stands after it
 pub stands-after : (s p q : List ℕ) (at w : ℕ) → length p ≡ w → drop at s ≡ p ++ q → drop (at + w) s ≡ q
@@ -121,8 +138,8 @@ module _ (x : SoFar) (stage : ℕ) (r : Row) (vs q : List ℕ) (found : withCode
     command-stands h =
         let there : leb (length s) at ≡ false = lt-leb (length s) at (omega (arith, length-sheet h)) in
         let whole : ltb (length s) (next r at) ≡ false = le-ltb (length s) (next r at) (omega (arith, length-sheet h)) in
-        let tone : addressed s at ≡ addressed (written r vs ++ q) 0 = sym (getD-drop at s 1 0) ∙ ap (λ (t : List ℕ). getD t 1 0) e in
-        rw (there, code-stands, found, whole, tone, operands-done s (at + 1) (r .does (headerOf (x .line))) good values-stand)
+        let tone : addressed s at ≡ addressed (written r vs ++ q) 0 = addressed-drop s at ∙ ap (λ (t : List ℕ). addressed t 0) e in
+        rw (there, tone, code-stands, found, whole, operands-done s (at + 1) (r .does (headerOf (x .line))) good values-stand)
 
   -- what comes of the bytes after the command, from what it leaves, comes of them all
   pub reads-written : {stage′ : ℕ} {x′ : SoFar} {out : Meaning}

@@ -1,14 +1,14 @@
--- The tidy form of a line. Document 01, 'The line sheet'; document 02, W1, W5 and W6.
+-- The tidy form of a line. Document 01, 'The line sheet'; document 02, W1, W5, W6 and W8.
 -- Assumes nothing.
 use mathlib.Core.Bool.{cond}
 use mathlib.Core.List.{List, [], _∷_, _++_}
 use Prim.Native.Nat.{ℕ}
-use lib.Dec.{eqb}
+use lib.Dec.{ltb, eqb}
 use lib.Ieee.{binary32, toBits}
 use lib.ListN.{getD}
 use Rattle.sizes.specs.Sizes.{wordsOf}
 use Rattle.lists.specs.Joined.{joinedBelow}
-use Rattle.bigendian.specs.Number.{bytes}
+use Rattle.bigendian.specs.Number.{byteBase, bytes}
 use Rattle.gaps.specs.declared.Gap.{Gap}
 use Rattle.gaps.specs.declared.Gap.the-variants.{Parts, Tenths}
 use Rattle.readings.specs.declared.Reading.{Reading}
@@ -30,20 +30,24 @@ operandBytes (o ∷ os) (v ∷ vs) = bytes (o .width) v ++ operandBytes os vs
 abbrev pub written : Row → (values : List ℕ) → List ℕ
 written r values = r .code ∷ operandBytes (r .operands) values
 
+-- W8: 'Tidying uses the short command for tones up to 255', which one byte numbers: the bytes of tone i's number
+abbrev pub tidyWidth : (i : ℕ) → ℕ
+tidyWidth i = cond (ltb i byteBase) 1 2
+
 -- W5: 'Tidying keeps the float bits'; noise and gain, or their ratio
-abbrev pub readingRow : Reading → Row
-readingRow (Both l) = levels
-readingRow (Ratio x) = ratio
+abbrev pub readingRow : (width : ℕ) → Reading → Row
+readingRow width (Both l) = levels width
+readingRow width (Ratio x) = ratio width
 
 abbrev pub readingBits : Reading → List ℕ
 readingBits (Both l) = toBits binary32 (l .noise) ∷ toBits binary32 (l .gain) ∷ []
 readingBits (Ratio x) = toBits binary32 x ∷ []
 
 -- the command that describes a tone of a kind, and what it carries after the tone's number
-abbrev pub kindRow : Kind → Row
-kindRow (Pair n) = pair
-kindRow (Single n) = single
-kindRow (Read n) = readingRow (n .reading)
+abbrev pub kindRow : (width : ℕ) → Kind → Row
+kindRow width (Pair n) = pair width
+kindRow width (Single n) = single width
+kindRow width (Read n) = readingRow width (n .reading)
 
 abbrev pub kindValues : Kind → List ℕ
 kindValues (Pair n) = n .noise ∷ n .gain ∷ n .cap ∷ n .mask ∷ []
@@ -52,12 +56,12 @@ kindValues (Read n) = readingBits (n .reading) ++ (n .cap ∷ n .mask ∷ [])
 
 -- W6: 'Tidying puts 0B straight after its tone and drops one whose rest is 0.'
 abbrev pub restBytes : (i rest : ℕ) → List ℕ
-restBytes i r = cond (eqb r 0) [] (written rest (i ∷ r ∷ []))
+restBytes i r = cond (eqb r 0) [] (written (rest (tidyWidth i)) (i ∷ r ∷ []))
 
 -- 'the described tones in rising number'; a silenced tone stays described
 abbrev pub entryBytes : (i : ℕ) → Entry → List ℕ
 entryBytes i undescribed = []
-entryBytes i (described t r) = written (kindRow (t .kind)) (i ∷ kindValues (t .kind)) ++ restBytes i r
+entryBytes i (described t r) = written (kindRow (tidyWidth i) (t .kind)) (i ∷ kindValues (t .kind)) ++ restBytes i r
 
 abbrev pub toneBytesAt : List Entry → (i : ℕ) → List ℕ
 toneBytesAt entries i = entryBytes i (getD entries i undescribed)

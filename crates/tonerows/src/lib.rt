@@ -1,10 +1,10 @@
 // The commands that describe a tone and the one that gives its rest, all of whose bytes are there, from one operand to the next: document 01,
-// 'The line sheet' and 'Why a sheet is turned down', and document 02, W5 and W6.
+// 'The line sheet' and 'Why a sheet is turned down', and document 02, W5, W6 and W8.
 ghost use mathlib.Core.List.{List, [], _∷_};
 ghost use mathlib.Core.Path.{_≡_};
 ghost use Prim.Native.Nat.{ℕ, _+_, _≤_};
 ghost use lib.ListN.{length};
-ghost use Rattle.sizes.specs.Sizes.{longestSheet, toneCommand, levelsCommand, ratioCommand, restCommand};
+ghost use Rattle.sizes.specs.Sizes.{longestSheet};
 ghost use Rattle.lists.specs.Lent.{before};
 ghost use Rattle.gaps.specs.Gap.{parts};
 ghost use Rattle.line.specs.Line.{EntryInRange};
@@ -12,8 +12,8 @@ ghost use Rattle.refusals.specs.declared.Refusal.the-variants.{FloatOutOfRange,
 ghost use Rattle.places.specs.Places.{entryAt};
 ghost use Rattle.rows.specs.declared.Header.{Header};
 ghost use Rattle.rows.specs.declared.Command.the-variants.{Refused};
-ghost use Rattle.rows.specs.Rows.{Known, rest, capAndMask, numbers, levelOperands, ratioOperands, width, describesFrom, rowAt};
-ghost use Rattle.rows.specs.Codes.{knownAt, toneRow};
+ghost use Rattle.rows.specs.Rows.{Known, capAndMask, numbers, levelOperands, ratioOperands, width, describesFrom, rowAt};
+ghost use Rattle.rows.specs.Codes.{knownAt, toneRow, restRow};
 use readings::Levels;
 use readings::Reading;
 use refusals::Refusal;
@@ -37,20 +37,20 @@ fn from_cap(s: &[u8], at: usize, most: u8, tone: u16) -> Command
     Command::Describe(tone)
 }
 
-// Noise and gain as whole numbers, and what follows.
+// Noise and gain as whole numbers, from a place on, and what follows.
 fn from_numbers(s: &[u8], at: usize, is_single: bool, tone: u16) -> Command
-    requires { ⌜ at + toneCommand ≤ length (now s) ⌝ }
+    requires { ⌜ at + width (numbers «is_single») ≤ length (now s) ⌝ }
     requires { ⌜ length (now s) ≤ longestSheet ⌝ }
-    ensures { λ r. ⌜ ((h : Header) → (known : Known) → r ≡ describesFrom h known (tone ∷ []) (before s) (at + 2) (numbers «is_single»)) ⌝ }
+    ensures { λ r. ⌜ ((h : Header) → (known : Known) → r ≡ describesFrom h known (tone ∷ []) (before s) at (numbers «is_single»)) ⌝ }
 {
+    if bigendian::number_at(s, at, 2) < 1 {
+        return rows::out_of_range(at);
+    }
     if bigendian::number_at(s, at + 2, 2) < 1 {
         return rows::out_of_range(at + 2);
     }
-    if bigendian::number_at(s, at + 4, 2) < 1 {
-        return rows::out_of_range(at + 4);
-    }
     let most = line::most_cap(is_single);
-    from_cap(s, at + 6, most, tone)
+    from_cap(s, at + 4, most, tone)
 }
 
 // Refusal 12, at the place of a float.
@@ -71,17 +71,17 @@ fn cost_out_of_range(place: usize) -> Command
 
 // Noise and gain as floats, and what follows.
 fn from_levels(s: &[u8], at: usize, header: Header, tone: u16) -> Command
-    requires { ⌜ at + levelsCommand ≤ length (now s) ⌝ }
+    requires { ⌜ at + width levelOperands ≤ length (now s) ⌝ }
     requires { ⌜ length (now s) ≤ longestSheet ⌝ }
-    ensures { λ r. ⌜ ((known : Known) → r ≡ describesFrom header known (tone ∷ []) (before s) (at + 2) levelOperands) ⌝ }
+    ensures { λ r. ⌜ ((known : Known) → r ≡ describesFrom header known (tone ∷ []) (before s) at levelOperands) ⌝ }
 {
-    let noise = bigendian::number_at(s, at + 2, 4) as u32;
+    let noise = bigendian::number_at(s, at, 4) as u32;
     if !readings::is_usable(noise) {
-        return float_out_of_range(at + 2);
+        return float_out_of_range(at);
     }
-    let gain = bigendian::number_at(s, at + 6, 4) as u32;
+    let gain = bigendian::number_at(s, at + 4, 4) as u32;
     if !readings::is_usable(gain) {
-        return float_out_of_range(at + 6);
+        return float_out_of_range(at + 4);
     }
     let levels = Levels {
         noise: readings::float_of(noise),
@@ -89,46 +89,48 @@ fn from_levels(s: &[u8], at: usize, header: Header, tone: u16) -> Command
     };
     let gap = header.gap;
     if readings::is_over(gaps::parts(gap), Reading::Both(levels)) {
-        return cost_out_of_range(at + 2);
+        return cost_out_of_range(at);
     }
-    from_cap(s, at + 10, PAIR_CAP, tone)
+    from_cap(s, at + 8, PAIR_CAP, tone)
 }
 
 // Their ratio as a float, and what follows.
 fn from_ratio(s: &[u8], at: usize, header: Header, tone: u16) -> Command
-    requires { ⌜ at + ratioCommand ≤ length (now s) ⌝ }
+    requires { ⌜ at + width ratioOperands ≤ length (now s) ⌝ }
     requires { ⌜ length (now s) ≤ longestSheet ⌝ }
-    ensures { λ r. ⌜ ((known : Known) → r ≡ describesFrom header known (tone ∷ []) (before s) (at + 2) ratioOperands) ⌝ }
+    ensures { λ r. ⌜ ((known : Known) → r ≡ describesFrom header known (tone ∷ []) (before s) at ratioOperands) ⌝ }
 {
-    let bits = bigendian::number_at(s, at + 2, 4) as u32;
+    let bits = bigendian::number_at(s, at, 4) as u32;
     if !readings::is_usable(bits) {
-        return float_out_of_range(at + 2);
+        return float_out_of_range(at);
     }
     let ratio = readings::float_of(bits);
     let gap = header.gap;
     if readings::is_over(gaps::parts(gap), Reading::Ratio(ratio)) {
-        return cost_out_of_range(at + 2);
+        return cost_out_of_range(at);
     }
-    from_cap(s, at + 6, PAIR_CAP, tone)
+    from_cap(s, at + 4, PAIR_CAP, tone)
 }
 
-// The command of a byte that describes a tone. `place` is where its tone is described already, or 0.
+// The command of a byte that describes a tone, short or a twin. `place` is where its tone is described already, or 0.
 pub fn tone_command(s: &[u8], at: usize, code: u8, header: Header, place: u16) -> Command
     requires { ⌜ at + 1 + width (toneRow code .operands) ≤ length (now s) ⌝ }
     requires { ⌜ length (now s) ≤ longestSheet ⌝ }
     ensures { λ r. ⌜ ((rested : ℕ) → r ≡ rowAt header (knownAt (before s) place rested) (before s) at (toneRow code)) ⌝ }
 {
-    let tone = s[at + 1] as u16;
+    let tone = addresses::tone_number(s, at, code);
     if header.size <= tone {
         return Command::Refused(Refusal::ToneBeyondLine((at + 1) as u16));
     }
     if 0 < place {
         return Command::Refused(Refusal::ToneRepeated((at + 1) as u16));
     }
-    match code {
-        9 => from_levels(s, at, header, tone),
-        10 => from_ratio(s, at, header, tone),
-        _ => from_numbers(s, at, code == 5, tone),
+    let carried = at + 1 + addresses::number_width(code);
+    let short = addresses::short_of(code);
+    match short {
+        9 => from_levels(s, carried, header, tone),
+        10 => from_ratio(s, carried, header, tone),
+        _ => from_numbers(s, carried, short == 5, tone),
     }
 }
 
@@ -140,15 +142,23 @@ fn cannot_take(place: usize) -> Command
     Command::Refused(Refusal::ToneCannotTake(place as u16))
 }
 
-// The rest command. `place` is where its tone is described already, and `rested` where that has had a rest already, or 0.
-pub fn rest_command(s: &[u8], at: usize, header: Header, place: u16, rested: u16) -> Command
-    requires { ⌜ at + restCommand ≤ length (now s) ⌝ }
+// The command of a byte that gives a rest, short or a twin. `place` is where its tone is described already, and `rested` where that has had a
+// rest already, or 0.
+pub fn rest_command(
+    s: &[u8],
+    at: usize,
+    code: u8,
+    header: Header,
+    place: u16,
+    rested: u16,
+) -> Command
+    requires { ⌜ at + 1 + width (restRow code .operands) ≤ length (now s) ⌝ }
     requires { ⌜ length (now s) ≤ longestSheet ⌝ }
     requires { ⌜ EntryInRange (parts (header .gap)) (entryAt (now s) place rested) ⌝ }
-    ensures { λ r. ⌜ r ≡ rowAt header (knownAt (before s) place rested) (before s) at rest ⌝ }
+    ensures { λ r. ⌜ r ≡ rowAt header (knownAt (before s) place rested) (before s) at (restRow code) ⌝ }
 {
     let operand = at + 1;
-    let tone = s[operand] as u16;
+    let tone = addresses::tone_number(s, at, code);
     if header.size <= tone {
         return Command::Refused(Refusal::ToneBeyondLine(operand as u16));
     }
@@ -158,10 +168,11 @@ pub fn rest_command(s: &[u8], at: usize, header: Header, place: u16, rested: u16
     if 0 < rested {
         return cannot_take(operand);
     }
-    let rest = bigendian::number_at(s, at + 2, 4) as u32;
+    let carried = operand + addresses::number_width(code);
+    let rest = bigendian::number_at(s, carried, 4) as u32;
     let gap = header.gap;
     if !places::takes_rest(s, gaps::parts(gap), place, rest) {
-        return Command::Refused(Refusal::RestOutOfRange((at + 2) as u16));
+        return Command::Refused(Refusal::RestOutOfRange(carried as u16));
     }
     Command::Rest(tone)
 }

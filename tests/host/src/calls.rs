@@ -308,8 +308,9 @@ fn canary(place: usize) -> u8 {
 impl Lent {
     fn new(content: &[u8]) -> Lent {
         let (front, length) = (CANARY + content.len() % 8, content.len());
-        let mut bytes: Vec<u8> = (0..front + length + CANARY).map(canary).collect();
-        bytes[front..front + length].copy_from_slice(content);
+        let mut bytes: Vec<u8> = (0..front).map(canary).collect();
+        bytes.extend(content);
+        bytes.extend((front + length..front + length + CANARY).map(canary));
         Lent { bytes, front, length }
     }
 
@@ -320,8 +321,8 @@ impl Lent {
     /// The content, if the canary bytes stand.
     fn returned(self, name: &str) -> Result<Vec<u8>, String> {
         let inside = self.front..self.front + self.length;
-        let outside = |place: &usize| !inside.contains(place);
-        match (0..self.bytes.len()).filter(outside).find(|&p| self.bytes[p] != canary(p)) {
+        let mut outside = (0..inside.start).chain(inside.end..self.bytes.len());
+        match outside.find(|&p| self.bytes[p] != canary(p)) {
             Some(p) if p < self.front => {
                 Err(format!("byte {} before the {name} was changed", self.front - p))
             }

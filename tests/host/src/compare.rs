@@ -2,6 +2,7 @@
 
 use crate::calls::{self, Call, Outcome};
 use crate::inputs::{input, Input, SAMPLE_INPUTS};
+use crate::paper::line::LARGEST_SHEET;
 use crate::{budgets, limits, totals};
 
 /// One input of one call.
@@ -92,7 +93,7 @@ pub fn one(which: Which) -> Result<String, String> {
 
 /// Bytes in hex; of more than any sheet should have, the first.
 pub fn hex(bytes: &[u8]) -> String {
-    const SHOWN: usize = 5_000;
+    const SHOWN: usize = LARGEST_SHEET + 1_000;
     let words: Vec<String> = bytes.iter().take(SHOWN).map(|byte| format!("{byte:02x}")).collect();
     match bytes.len() {
         0 => "nothing".to_string(),

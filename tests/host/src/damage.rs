@@ -2,57 +2,41 @@
 
 use crate::floats;
 use crate::paper::gap::{Gap, MOST_TENTHS};
-use crate::paper::line::{read_bytes, Given, Kind, Tone, LARGEST_POWER, LARGEST_SHEET};
+use crate::paper::line::{read_bytes, Command, Given, Kind, Tone};
+use crate::paper::line::{LARGEST_POWER, LARGEST_SHEET, TONES, TWIN};
 use crate::paper::reading::{Reading, LARGEST_COST};
 use crate::random::Random;
-use crate::sheets::{commands, describes_a_tone, description, fill, largest_rest};
-use crate::sheets::{reading, rest, silence, some_silence, tone, whole_gap, Commands};
+use crate::sheets::{commands, describes, describes_a_tone, description, fill, largest_rest};
+use crate::sheets::{named, reading, rest, silence, some_silence, tone, whole_gap};
+use crate::sheets::{Commands, Name};
 
-pub const WAYS: usize = 23;
+pub const WAYS: usize = 25;
 
 /// A sheet damaged in one of the ways; any byte string, in some of them.
 pub fn damaged(random: &mut Random, way: usize) -> Vec<u8> {
     let mut commands = commands(random);
     match way {
-        0 => changed(random, commands.concat()),
-        1 => cut(random, commands.concat()),
-        2 => appended(random, commands.concat()),
-        3 => {
-            out_of_order(random, &mut commands);
-            commands.concat()
-        }
-        4 => {
-            repeated(random, &mut commands);
-            commands.concat()
-        }
-        5..=7 => {
-            beyond(random, &mut commands);
-            commands.concat()
-        }
-        8 => {
-            not_on_line(random, &mut commands);
-            commands.concat()
-        }
-        9 => any_bytes(random),
-        10 => Vec::new(),
-        11 => too_long(random, commands),
-        12 => cut_in_command(random, commands),
-        13 | 14 => gap_at_fault(random, commands),
-        15..=17 => {
-            reading_at_fault(random, &mut commands);
-            commands.concat()
-        }
-        18 => {
-            another_command(random, &mut commands);
-            commands.concat()
-        }
-        19 | 20 => {
-            rest_at_fault(random, &mut commands);
-            commands.concat()
-        }
-        21 => rests_at_budget(random, commands),
-        _ => twice(random, commands),
+        0 => return changed(random, commands.concat()),
+        1 => return cut(random, commands.concat()),
+        2 => return appended(random, commands.concat()),
+        3 => out_of_order(random, &mut commands),
+        4 => _ = repeated(random, &mut commands),
+        5..=7 => _ = beyond(random, &mut commands),
+        8 => _ = not_on_line(random, &mut commands),
+        9 => return any_bytes(random),
+        10 => return Vec::new(),
+        11 => return too_long(random, commands),
+        12 => return cut_in_command(random, commands),
+        13 | 14 => return gap_at_fault(random, commands),
+        15..=17 => _ = reading_at_fault(random, &mut commands),
+        18 => another_command(random, &mut commands),
+        19 | 20 => _ = rest_at_fault(random, &mut commands),
+        21 => return rests_at_budget(random, commands),
+        22 => another_width(random, &mut commands),
+        23 => another_number(random, &mut commands),
+        _ => return twice(random, commands),
     }
+    commands.concat()
 }
 
 /// N, or 1 where damage made it 0.
@@ -76,7 +60,7 @@ fn gap_between(random: &mut Random, commands: &Commands) -> usize {
 
 fn changed(random: &mut Random, mut sheet: Vec<u8>) -> Vec<u8> {
     for _ in 0..random.pick(&[1, 1, 1, 2, 5]) {
-        let end = random.pick(&[20, 60, 5000]).min(sheet.len());
+        let end = random.pick(&[20, 60, LARGEST_SHEET]).min(sheet.len());
         let place = random.below(end);
         let byte = sheet[place];
         let any = random.next() as u8;
@@ -97,7 +81,7 @@ fn appended(random: &mut Random, mut sheet: Vec<u8>) -> Vec<u8> {
     let count = random.pick(&[1, 1, 2, 15, 200]);
     let any = random.bytes(count);
     match random.below(3) {
-        0 => sheet.extend(vec![random.pick(&[0, 4, 6, 7, 8, 9, 10, 11]); count]),
+        0 => sheet.extend(vec![random.pick(&[0, 4, 6, 7, 8, 9, 10, 11, 0x14, 0x1b]); count]),
         1 => sheet.extend(sheet.clone()),
         _ => sheet.extend(any),
     }
@@ -117,14 +101,17 @@ fn out_of_order(random: &mut Random, commands: &mut Commands) {
         }
         4 => commands.insert(random.below(commands.len()), vec![7]),
         _ => {
-            let unknown = random.pick(&[0, 8, 9, 10, 11, 12, 25, 128, 255]);
-            commands.insert(random.below(commands.len()), vec![unknown]);
+            // No command, or one that is not whole.
+            let any = random.below(256) as u8;
+            let byte = random.pick(&[0, 8, 9, 10, 11, 12, 0x11, 0x16, 0x17, 0x18, 0x19, any, any]);
+            commands.insert(random.below(commands.len()), vec![byte]);
         }
     }
 }
 
-/// A tone described by any of the four commands, sometimes with a fault behind the tone.
-fn described(random: &mut Random, number: u8, faulty: bool) -> Vec<u8> {
+/// A tone described by any command, sometimes with a fault behind the tone.
+fn described(random: &mut Random, number: usize, faulty: bool) -> Vec<u8> {
+    let number = Name::any(random, number);
     let (noise, cap) = if faulty { random.pick(&[(1, 7), (0, 7), (1, 255)]) } else { (9, 7) };
     let mask = random.pick(&[5, LARGEST_POWER]);
     let float = match noise {
@@ -142,7 +129,7 @@ fn described(random: &mut Random, number: u8, faulty: bool) -> Vec<u8> {
 /// A tone described twice, by any two commands, the second time often with a fault
 /// behind the tone. The place of the second.
 fn repeated(random: &mut Random, commands: &mut Commands) -> usize {
-    let number = random.below(tones(commands)) as u8;
+    let number = random.below(tones(commands));
     let first = gap_between(random, commands);
     commands.insert(first, described(random, number, false));
     let second = first + 1 + random.below(commands.len() - first - 1);
@@ -152,11 +139,12 @@ fn repeated(random: &mut Random, commands: &mut Commands) -> usize {
 
 /// An operand at an end of its range or one beyond it. The place of its command.
 fn beyond(random: &mut Random, commands: &mut Commands) -> usize {
-    let number = random.below(tones(commands)) as u8;
+    let number = random.below(tones(commands));
+    let number = Name::any(random, number);
     let mask = random.pick(&[LARGEST_POWER, LARGEST_POWER + 1, 1 << 63, u64::MAX]);
     let new = match random.below(10) {
         0 => {
-            let size: u16 = random.pick(&[0, 1, 256, 257, 512, 65_535]);
+            let size: u16 = random.pick(&[0, 1, 256, 257, 1023, 1024, 1025, 1025, 65_535]);
             commands[0][1..].copy_from_slice(&size.to_be_bytes());
             return 0;
         }
@@ -177,22 +165,24 @@ fn beyond(random: &mut Random, commands: &mut Commands) -> usize {
             let read = floats::of_whole(random, mask > LARGEST_POWER, 65_535, 1);
             reading(number, read, random.pick(&[14, 15, 16, 255]), mask)
         }
-        _ => silence(random.pick(&[7, 8, 9, 128, 255]), random.pick(&[0, 1, u32::MAX])),
+        _ => {
+            let word = random.pick(&[7, 8, 9, 30, 31, 32, 32, 33, 128, 255]);
+            silence(word, random.pick(&[0, 1, u32::MAX]))
+        }
     };
     put(random, commands, new)
 }
 
 /// The commands that describe a tone or give its rest go.
-fn forget(commands: &mut Commands, number: u8) {
-    let of_tone = |command: &[u8]| describes_a_tone(command) || command[0] == 11;
-    commands.retain(|command| !(of_tone(command) && command[1] == number));
+fn forget(commands: &mut Commands, number: usize) {
+    commands.retain(|command| named(command) != Some(number));
 }
 
-/// Puts in a command. If it describes a tone, the tone's own description goes, so that
-/// it is not a repeat, and so does its rest. Its place.
+/// Puts in a command that gives no rest. If it describes a tone, the tone's own description
+/// goes, so that it is not a repeat, and so does its rest. Its place.
 fn put(random: &mut Random, commands: &mut Commands, new: Vec<u8>) -> usize {
-    if describes_a_tone(&new) {
-        forget(commands, new[1]);
+    if let Some(number) = named(&new) {
+        forget(commands, number);
     }
     let place = gap_between(random, commands);
     commands.insert(place, new);
@@ -223,7 +213,8 @@ fn reading_at_fault(random: &mut Random, commands: &mut Commands) -> usize {
         let gap = random.pick(&[256, 257, 512, 4_096, 65_280, 65_535]);
         commands[1] = whole_gap(gap);
     }
-    let number = random.below(tones(commands)) as u8;
+    let number = random.below(tones(commands));
+    let number = Name::any(random, number);
     let read = some_reading(random, gap(commands));
     let cap = random.pick(&[0, 7, 15, 15, 16, 255]);
     let mask = random.pick(&[0, 1000, LARGEST_POWER, LARGEST_POWER, LARGEST_POWER + 1, u64::MAX]);
@@ -231,8 +222,8 @@ fn reading_at_fault(random: &mut Random, commands: &mut Commands) -> usize {
 }
 
 /// A tone of any command in the place of its own. Its number, and what was put.
-fn another_tone(random: &mut Random, commands: &mut Commands) -> (u8, Tone) {
-    let number = random.below(tones(commands)) as u8;
+fn another_tone(random: &mut Random, commands: &mut Commands) -> (usize, Tone) {
+    let number = random.below(tones(commands));
     let (noise, gain) = (random.pick(&[1, 9, 300, 65_535]), 1);
     let (whole, ratio) = (Given::Whole { noise, gain }, random.once_in(2));
     let (kind, given) = match random.below(4) {
@@ -244,7 +235,8 @@ fn another_tone(random: &mut Random, commands: &mut Commands) -> (u8, Tone) {
     let cost = tone.cost(gap(commands));
     let mask = random.pick(&[0, 5, cost - 1, cost, LARGEST_POWER, LARGEST_POWER]);
     let tone = Tone { mask, ..tone };
-    put(random, commands, description(number, tone));
+    let name = Name::any(random, number);
+    put(random, commands, description(name, tone));
     (number, tone)
 }
 
@@ -254,14 +246,14 @@ fn place_from(random: &mut Random, commands: &Commands, first: usize) -> usize {
 }
 
 /// The place after a tone's command.
-fn after_tone(commands: &Commands, number: u8) -> usize {
-    let of_tone = |command: &Vec<u8>| describes_a_tone(command) && command[1] == number;
+fn after_tone(commands: &Commands, number: usize) -> usize {
+    let of_tone = |command: &Vec<u8>| describes(command, number);
     1 + commands.iter().position(of_tone).expect("it is described")
 }
 
-fn silence_tone(random: &mut Random, commands: &mut Commands, number: u8) {
+fn silence_tone(random: &mut Random, commands: &mut Commands, number: usize) {
     let place = gap_between(random, commands);
-    commands.insert(place, silence(number / 32, 1 << (number % 32)));
+    commands.insert(place, silence((number / 32) as u8, 1 << (number % 32)));
 }
 
 /// A rest at an end of what its tone can have, or beyond it; or the tone is not described
@@ -283,12 +275,13 @@ fn rest_at_fault(random: &mut Random, commands: &mut Commands) -> usize {
         }
         2 | 3 => {
             let first = place_from(random, commands, next);
-            commands.insert(first, rest(number, random.pick(&[0, most as u32])));
+            let name = Name::any(random, number);
+            commands.insert(first, rest(name, random.pick(&[0, most as u32])));
             place_from(random, commands, first + 1)
         }
         _ => place_from(random, commands, next),
     };
-    commands.insert(place, rest(number, value));
+    commands.insert(place, rest(Name::any(random, number), value));
     place
 }
 
@@ -299,7 +292,8 @@ fn budget_of_rests(random: &mut Random, commands: &mut Commands) {
     let most = largest_rest(&tone, gap(commands));
     let next = after_tone(commands, number);
     let place = place_from(random, commands, next);
-    commands.insert(place, rest(number, random.between(most.min(1), most) as u32));
+    let name = Name::any(random, number);
+    commands.insert(place, rest(name, random.between(most.min(1), most) as u32));
     if random.once_in(3) {
         silence_tone(random, commands, number);
     }
@@ -327,17 +321,45 @@ fn rests_at_budget(random: &mut Random, mut commands: Commands) -> Vec<u8> {
     }
 }
 
-/// A tone's command has the byte of another that describes a tone.
-fn another_command(random: &mut Random, commands: &mut Commands) {
-    if !commands.iter().any(|command| describes_a_tone(command)) {
+/// The place of a command that names a tone, or describes one. Where there is none, a tone is
+/// described twice.
+fn of_a_tone(random: &mut Random, commands: &mut Commands, is: fn(&[u8]) -> bool) -> usize {
+    if !commands.iter().any(|command| is(command)) {
         repeated(random, commands);
     }
-    let tones: Vec<usize> =
-        (0..commands.len()).filter(|&i| describes_a_tone(&commands[i])).collect();
-    let place = random.pick(&tones);
+    let places: Vec<usize> = (0..commands.len()).filter(|&i| is(&commands[i])).collect();
+    random.pick(&places)
+}
+
+/// A tone's command has the byte of another of its width that describes a tone.
+fn another_command(random: &mut Random, commands: &mut Commands) {
+    let place = of_a_tone(random, commands, describes_a_tone);
+    let byte = &mut commands[place][0];
+    let twin = *byte & TWIN;
     let others: Vec<u8> =
-        [4, 5, 9, 10].into_iter().filter(|&byte| byte != commands[place][0]).collect();
-    commands[place][0] = random.pick(&others);
+        [4, 5, 9, 10].into_iter().filter(|&short| short | twin != *byte).collect();
+    *byte = random.pick(&others) | twin;
+}
+
+/// A command that names a tone has the byte of its twin, or a twin that of its short command:
+/// all its operands are read one byte off.
+fn another_width(random: &mut Random, commands: &mut Commands) {
+    let place = of_a_tone(random, commands, |command| named(command).is_some());
+    commands[place][0] ^= TWIN;
+}
+
+/// A command that names a tone has another byte in its number: often the first of two.
+fn another_number(random: &mut Random, commands: &mut Commands) {
+    if random.once_in(2) {
+        repeated(random, commands);
+    }
+    let place = of_a_tone(random, commands, |command| named(command).is_some());
+    let command = &mut commands[place];
+    let last = usize::from(command[0] >= TWIN);
+    let byte = &mut command[1 + if random.once_in(4) { last } else { 0 }];
+    let any = random.next() as u8;
+    let flipped = *byte ^ 1 << random.below(8);
+    *byte = random.pick(&[0, 1, 2, 3, 4, 255, any, flipped]);
 }
 
 /// Either command of the gap, at an end of its range or beyond it, or with any operand.
@@ -369,13 +391,14 @@ fn gap_at_fault(random: &mut Random, mut commands: Commands) -> Vec<u8> {
 
 /// A tone or a map that names a tone from N on. The place of its command.
 fn not_on_line(random: &mut Random, commands: &mut Commands) -> usize {
-    let first = tones(commands).min(255);
-    let number = random.pick(&[first, first, 255]);
+    let first = tones(commands).min(65_535);
+    let far = random.pick(&[255, 256, TONES - 1, TONES, 65_535]);
+    let number = random.pick(&[first, first, first.max(far)]);
     let map = 1 << (number % 32) | random.pick(&[0, 1, u32::MAX]);
     let new = match random.below(5) {
-        0 => rest(number as u8, random.pick(&[0, u32::MAX])),
-        1 | 2 => described(random, number as u8, true),
-        _ => silence((number / 32) as u8, map),
+        0 => rest(Name::any(random, number), random.pick(&[0, u32::MAX])),
+        3 | 4 if number < TONES => silence((number / 32) as u8, map),
+        _ => described(random, number, true),
     };
     let place = gap_between(random, commands);
     commands.insert(place, new);
@@ -383,20 +406,21 @@ fn not_on_line(random: &mut Random, commands: &mut Commands) -> usize {
 }
 
 fn any_bytes(random: &mut Random) -> Vec<u8> {
-    let length = random.pick(&[1, 2, 3, 15, 16, 40, 300, 4096, 4097, 5000]);
+    let long = [LARGEST_SHEET, LARGEST_SHEET + 1];
+    let length = random.pick(&[1, 2, 3, 15, 16, 40, 300, 5000, long[0], long[1]]);
     let mut sheet = random.bytes(length);
     if random.once_in(2) {
         sheet[0] = 1;
     } else if random.once_in(2) {
-        sheet.iter_mut().for_each(|byte| *byte %= 12);
+        sheet.iter_mut().for_each(|byte| *byte %= 0x1c);
     }
     sheet
 }
 
-/// Over 4,096 bytes, or just at them: otherwise valid, or damaged besides.
+/// Over 32,768 bytes, or just at them: otherwise valid, or damaged besides.
 fn too_long(random: &mut Random, mut commands: Commands) -> Vec<u8> {
     let tones = tones(&commands);
-    let bytes = LARGEST_SHEET + random.pick(&[0, 6, 12, 600]);
+    let bytes = LARGEST_SHEET + random.pick(&[0, 1, 1, 2, 600]);
     fill(random, &mut commands, tones, bytes);
     let sheet = commands.concat();
     match random.below(5) {
@@ -420,7 +444,11 @@ fn cut_in_command(random: &mut Random, mut commands: Commands) -> Vec<u8> {
     };
     let last = &commands[place];
     let missing = 1 + random.below(last.len());
-    let left = last.len() - random.pick(&[1, missing]);
+    let left = match Command::of(last[0]) {
+        // Between the bytes of its tone.
+        Some(Command { is_twin: true, .. }) if random.once_in(4) => 2,
+        _ => last.len() - random.pick(&[1, missing]),
+    };
     [&commands[..place].concat(), &last[..left]].concat()
 }
 
@@ -430,7 +458,10 @@ fn twice(random: &mut Random, mut commands: Commands) -> Vec<u8> {
         let place = gap_between(random, &commands);
         match random.below(9) {
             0 => commands.insert(place, vec![random.pick(&[0, 1, 8])]),
-            1 => commands.insert(place, some_silence(random, 256)),
+            1 => {
+                let tones = random.pick(&[256, TONES]);
+                commands.insert(place, some_silence(random, tones));
+            }
             2 => commands[1] = gap_command(random),
             3 => _ = repeated(random, &mut commands),
             4 => _ = not_on_line(random, &mut commands),
@@ -455,18 +486,22 @@ mod tests {
     use crate::paper::Refusal;
     use std::collections::BTreeMap;
 
-    /// How many bytes each command has, by its byte.
-    const WIDTHS: [usize; 12] = [0, 3, 3, 9, 15, 15, 6, 1, 2, 19, 15, 6];
+    /// How many sheets are looked at.
+    const SHEETS: u64 = 32_000;
 
     fn refuse(number: u32, place: usize) -> Result<Line, Refusal> {
         Err(Refusal { number, place })
+    }
+
+    fn command_at(sheet: &[u8], at: usize) -> Command {
+        Command::of(sheet[at]).expect("a command")
     }
 
     /// The place of the command that a byte belongs to; the commands before it are sound.
     fn command_of(sheet: &[u8], place: usize) -> usize {
         let mut at = 0;
         loop {
-            let next = at + WIDTHS[usize::from(sheet[at])];
+            let next = at + command_at(sheet, at).length();
             if place < next {
                 return at;
             }
@@ -474,27 +509,43 @@ mod tests {
         }
     }
 
+    /// A refusal and its byte of a short command, in which a twin's other operands stand one
+    /// earlier; and, of a twin, that it is one.
+    fn shown_at(refusal: Refusal, at: usize, command: Command) -> (String, &'static str) {
+        let byte = refusal.place - at;
+        let byte = if byte > 1 { byte + 1 - command.tone_bytes() } else { byte };
+        let twin = if command.is_twin { ", twin" } else { "" };
+        (format!("{} at byte {byte} of {:02x}", refusal.number, command.short), twin)
+    }
+
     /// What a refused reading shows: the refusal, and what else is at fault behind it.
     fn shown(sheet: &[u8], refusal: Refusal) -> Option<String> {
         let at = command_of(sheet, refusal.place);
-        let length = match sheet[at] {
-            9 => 19,
-            10 => 15,
-            _ => return None,
-        };
-        let command = &sheet[at..at + length];
-        let float =
-            |at: usize| f32::from_be_bytes(command[at..at + 4].try_into().expect("4 bytes"));
+        let command = command_at(sheet, at);
+        if !matches!(command.short, 9 | 10) {
+            return None;
+        }
+        let bytes = &sheet[at + command.tone_bytes() - 1..at + command.length()];
+        let length = bytes.len();
+        let float = |at: usize| f32::from_be_bytes(bytes[at..at + 4].try_into().expect("4 bytes"));
         let bad = |float: f32| !(float.is_finite() && float > 0.0);
         let number = refusal.number;
-        let name = format!("{number} at byte {} of {:02x}", refusal.place - at, command[0]);
-        let both = number == 12 && refusal.place == at + 2 && length == 19 && bad(float(6));
-        let cap = number > 11 && command[length - 9] > 15;
-        let mask = number > 11 && command[length - 8..] > LARGEST_POWER.to_be_bytes()[..];
+        let (name, twin) = shown_at(refusal, at, command);
+        let first = refusal.place == at + 1 + command.tone_bytes();
+        let both = number == 12 && first && length == 19 && bad(float(6));
+        let cap = number > 11 && bytes[length - 9] > 15;
+        let mask = number > 11 && bytes[length - 8..] > LARGEST_POWER.to_be_bytes()[..];
         let infinite = number == 13 && length == 19 && (float(2) / float(6)).is_infinite();
         let more = [(both, ", gain"), (cap, ", cap"), (mask, ", mask"), (infinite, ", infinite")];
         let more = more.into_iter().filter(|(is, _)| *is).map(|(_, more)| more);
-        Some(more.fold(name, |name, more| name + more))
+        Some(more.fold(name, |name, more| name + more) + twin)
+    }
+
+    /// Each of these, in a short command and in a twin, has been shown often enough.
+    fn assert_shown(counts: BTreeMap<String, u32>, due: &[&str]) {
+        for due in due.iter().flat_map(|due| [due.to_string(), format!("{due}, twin")]) {
+            assert!(counts.get(&due).is_some_and(|&count| count > 3), "{due}: {counts:#?}");
+        }
     }
 
     /// What damaged readings should show: each refusal alone, and with faults behind it.
@@ -529,7 +580,7 @@ mod tests {
     #[test]
     fn every_fault_of_a_reading() {
         let mut counts = BTreeMap::new();
-        for index in 0..16_000 {
+        for index in 0..SHEETS {
             let sheet = damaged(&mut Random::new(1, index), index as usize % WAYS);
             match read(&sheet) {
                 Err(refusal) if matches!(refusal.number, 4..=6 | 12 | 13) => {
@@ -539,22 +590,22 @@ mod tests {
                 _ => {}
             }
         }
-        for due in FAULTS {
-            assert!(counts.get(due).is_some_and(|&count| count > 5), "{due}: {counts:#?}");
-        }
+        assert_shown(counts, &FAULTS);
     }
 
     /// What a refused rest shows: the refusal, and of 14 and 15 why.
     fn shown_of_rest(sheet: &[u8], refusal: Refusal) -> Option<String> {
         let at = command_of(sheet, refusal.place);
-        if sheet[at] != 11 {
+        let command = command_at(sheet, at);
+        if command.short != 11 {
             return None;
         }
-        let number = usize::from(sheet[at + 1]);
-        let rest = u32::from_be_bytes(sheet[at + 2..at + 6].try_into().expect("4 bytes"));
+        let number = named(&sheet[at..]).expect("a tone");
+        let end = at + command.length();
+        let rest = u32::from_be_bytes(sheet[end - 4..end].try_into().expect("4 bytes"));
         let line = read_bytes(&[&sheet[..at], &[7]].concat()).expect("it is sound up to there");
-        let name = format!("{} at byte {}", refusal.number, refusal.place - at);
-        let Some(tone) = line.described[number] else { return Some(name) };
+        let (name, twin) = shown_at(refusal, at, command);
+        let Some(Some(tone)) = line.described.get(number) else { return Some(name + twin) };
         let cost = tone.cost(line.gap.value());
         let more = [
             (refusal.number == 14 && line.rests[number] == 0, ", after one of 0"),
@@ -565,31 +616,31 @@ mod tests {
             (line.is_silenced(number), ", silenced"),
         ];
         let more = more.into_iter().filter(|(is, _)| *is).map(|(_, more)| more);
-        Some(more.fold(name, |name, more| name + more))
+        Some(more.fold(name, |name, more| name + more) + twin)
     }
 
     const FAULTS_OF_RESTS: [&str; 14] = [
-        "5 at byte 1",
-        "14 at byte 1",
-        "14 at byte 1, after one of 0",
-        "14 at byte 1, after one of 0, as large as the cost",
-        "14 at byte 1, after one of 0, above the mask",
-        "14 at byte 1, after one of 0, silenced",
-        "14 at byte 1, after another",
-        "14 at byte 1, after another, as large as the cost",
-        "15 at byte 2, as large as the cost",
-        "15 at byte 2, as large as the cost, silenced",
-        "15 at byte 2, above the cost",
-        "15 at byte 2, above the mask",
-        "15 at byte 2, above the mask, silenced",
-        "15 at byte 2, above the cost, above the mask",
+        "5 at byte 1 of 0b",
+        "14 at byte 1 of 0b",
+        "14 at byte 1 of 0b, after one of 0",
+        "14 at byte 1 of 0b, after one of 0, as large as the cost",
+        "14 at byte 1 of 0b, after one of 0, above the mask",
+        "14 at byte 1 of 0b, after one of 0, silenced",
+        "14 at byte 1 of 0b, after another",
+        "14 at byte 1 of 0b, after another, as large as the cost",
+        "15 at byte 2 of 0b, as large as the cost",
+        "15 at byte 2 of 0b, as large as the cost, silenced",
+        "15 at byte 2 of 0b, above the cost",
+        "15 at byte 2 of 0b, above the mask",
+        "15 at byte 2 of 0b, above the mask, silenced",
+        "15 at byte 2 of 0b, above the cost, above the mask",
     ];
 
     /// Rests are refused in every way.
     #[test]
     fn every_fault_of_a_rest() {
         let mut counts = BTreeMap::new();
-        for index in 0..16_000 {
+        for index in 0..SHEETS {
             let sheet = damaged(&mut Random::new(1, index), index as usize % WAYS);
             match read_bytes(&sheet) {
                 Err(refusal) if matches!(refusal.number, 5 | 14 | 15) => {
@@ -599,16 +650,14 @@ mod tests {
                 _ => {}
             }
         }
-        for due in FAULTS_OF_RESTS {
-            assert!(counts.get(due).is_some_and(|&count| count > 5), "{due}: {counts:#?}");
-        }
+        assert_shown(counts, &FAULTS_OF_RESTS);
     }
 
     /// Whether a sheet that is accepted has more rests, up to some command, than budget.
     fn saved_by_a_silence(sheet: &[u8]) -> bool {
         let mut at = 0;
         while sheet[at] != 7 {
-            at += WIDTHS[usize::from(sheet[at])];
+            at += command_at(sheet, at).length();
             if read(&[&sheet[..at], &[7]].concat()) == refuse(16, 0) {
                 return true;
             }
@@ -621,7 +670,7 @@ mod tests {
     #[test]
     fn every_budget_of_rests() {
         let mut counts = [0; 5];
-        for index in 0..16_000 {
+        for index in 0..SHEETS {
             let sheet = damaged(&mut Random::new(1, index), index as usize % WAYS);
             match read_bytes(&sheet) {
                 Ok(line) => {
@@ -629,8 +678,9 @@ mod tests {
                     let (given, sent) = (given.sum::<u64>(), line.sum_of_rests());
                     counts[0] += u32::from(sent > 0 && sent == line.budget);
                     counts[1] += u32::from(sent == line.budget + 1);
-                    counts[2] += u32::from(sent <= line.budget && saved_by_a_silence(&sheet));
-                    counts[3] += u32::from(sent <= line.budget && given > line.budget);
+                    let saved = sent <= line.budget && given > line.budget;
+                    counts[2] += u32::from(saved && saved_by_a_silence(&sheet));
+                    counts[3] += u32::from(saved);
                 }
                 Err(Refusal { number: 7, place }) => {
                     counts[4] += u32::from(read(&sheet[..place]) == refuse(16, 0));
@@ -645,7 +695,7 @@ mod tests {
     #[test]
     fn cut_inside_readings_and_rests() {
         let mut lengths = BTreeMap::new();
-        for index in 0..16_000 {
+        for index in 0..SHEETS {
             let mut random = Random::new(1, index);
             let commands = commands(&mut random);
             let sheet = cut_in_command(&mut random, commands);
@@ -655,10 +705,9 @@ mod tests {
             let at = command_of(&sheet, sheet.len() - 1);
             *lengths.entry((sheet[at], sheet.len() - at)).or_insert(0) += 1;
         }
-        let all =
-            |command: u8| (1..WIDTHS[usize::from(command)]).map(move |length| (command, length));
-        for due in [9, 10, 11].into_iter().flat_map(all) {
-            assert!(lengths.get(&due).is_some_and(|&count| count > 5), "{due:?}: {lengths:?}");
+        let all = |byte: u8| (1..command_at(&[byte], 0).length()).map(move |length| (byte, length));
+        for due in [9, 10, 11, 0x19, 0x1a, 0x1b].into_iter().flat_map(all) {
+            assert!(lengths.get(&due).is_some_and(|&count| count > 3), "{due:?}: {lengths:?}");
         }
     }
 }

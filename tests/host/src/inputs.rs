@@ -1,17 +1,17 @@
 //! What a call is given: sheet, starting table, target, list of budgets and buffer
 //! lengths, all from a seed and an index. Seed 0 is the sample sheet of document 01, then
-//! one with its gap in tenths of a decibel, one with readings, one with rests, and then a
-//! list of budgets, each with one byte changed, cut off or added, in every way; other
-//! seeds are random.
+//! one with its gap in tenths of a decibel, one with readings, one with rests, one of 1,024
+//! tones with twins, and then a list of budgets, each with one byte changed, cut off or
+//! added, in every way; other seeds are random.
 
 use crate::damage::{damaged, WAYS};
 use crate::lists::{powers, to_bytes, Around};
 use crate::paper::budgets::{BYTES_A_BUDGET, BYTES_OF_TOTALS};
-use crate::paper::line::{read_bytes, Line, LARGEST_POWER};
+use crate::paper::line::{read_bytes, Line, LARGEST_POWER, TONES};
 use crate::paper::run::Running;
 use crate::paper::{tidy_length, ANSWER_BYTES, BYTES_A_LIMIT, BYTES_A_TONE};
 use crate::random::Random;
-use crate::sheets::{commands, IN_TENTHS, READINGS, RESTS, SAMPLE};
+use crate::sheets::{commands, IN_TENTHS, READINGS, RESTS, SAMPLE, TWINS};
 
 #[derive(Clone)]
 pub struct Input {
@@ -30,7 +30,7 @@ pub struct Input {
 /// A sheet of seed 0, and what its calls are given with it.
 struct Sample {
     sheet: &'static [u8],
-    start: [u8; 3],
+    start: &'static [u8],
     target: u32,
     list: [u64; BUDGETS],
 }
@@ -38,17 +38,25 @@ struct Sample {
 /// How many budgets the samples have.
 const BUDGETS: usize = 5;
 
-const SAMPLES: [Sample; 4] = [
-    Sample { sheet: &SAMPLE, start: [0, 2, 3], target: 6, list: [2, 38, 39, 39, LARGEST_POWER] },
+/// One bit on tones 256 and 1,023.
+const START_OF_TWINS: [u8; TONES] = {
+    let mut start = [0; TONES];
+    start[256] = 1;
+    start[1023] = 1;
+    start
+};
+
+const SAMPLES: [Sample; 5] = [
+    Sample { sheet: &SAMPLE, start: &[0, 2, 3], target: 6, list: [2, 38, 39, 39, LARGEST_POWER] },
     Sample {
         sheet: &IN_TENTHS,
-        start: [0, 2, 3],
+        start: &[0, 2, 3],
         target: 6,
         list: [0, 2_559, 2_560, 70_000, LARGEST_POWER],
     },
     Sample {
         sheet: &READINGS,
-        start: [0, 2, 3],
+        start: &[0, 2, 3],
         target: 6,
         list: [0, 1_000_000_000, 1_000_000_000, 1 << 36, LARGEST_POWER],
     },
@@ -56,10 +64,13 @@ const SAMPLES: [Sample; 4] = [
     // the sum of the rests.
     Sample {
         sheet: &RESTS,
-        start: [0, 1, 0],
+        start: &[0, 1, 0],
         target: 3,
         list: [66_061, 66_062, 262_143, 262_144, LARGEST_POWER],
     },
+    // The target and the re-fit leave tone 1,023 at no bits, by its number alone. The
+    // budgets begin with the sum of the rests.
+    Sample { sheet: &TWINS, start: &START_OF_TWINS, target: 2, list: [4, 6, 7, 10, LARGEST_POWER] },
 ];
 
 /// How many inputs some bytes of seed 0 make: each byte at each value, each cut, each
@@ -129,15 +140,16 @@ fn sample_input(random: &mut Random, mut index: usize) -> Input {
 
 /// A sample's input with another sheet or list.
 fn input_like(random: &mut Random, sample: &Sample, sheet: Vec<u8>, list: Vec<u8>) -> Input {
+    let tones = read_bytes(&sheet).map_or(0, |line| line.tones);
     Input {
         sheet,
         start: sample.start.to_vec(),
         target: sample.target,
         list,
-        table: random.bytes(256 * BYTES_A_TONE),
-        tidy: random.bytes(READINGS.len() + 3),
+        table: random.bytes(BYTES_A_TONE * tones + 40),
+        tidy: random.bytes(TWINS.len() + 3),
         answer: random.bytes(ANSWER_BYTES + 8),
-        limits: random.bytes(256 * BYTES_A_LIMIT),
+        limits: random.bytes(BYTES_A_LIMIT * tones + 40),
         totals: random.bytes(BYTES_OF_TOTALS * BUDGETS + 8),
     }
 }
@@ -161,7 +173,8 @@ fn lent(random: &mut Random, needed: usize) -> Vec<u8> {
 }
 
 fn input_for_refused(random: &mut Random, sheet: Vec<u8>) -> Input {
-    let tones = random.between(1, 256) as usize;
+    let most = if random.once_in(20) { TONES as u64 } else { 256 };
+    let tones = random.between(1, most) as usize;
     let length = length(random, tones);
     let start = random.bytes(length).iter().map(|byte| byte % 4).collect();
     let input = Input {
@@ -236,7 +249,7 @@ fn start(random: &mut Random, limits: &[u8], loaded: &[u8]) -> Vec<u8> {
         }
         1 => start[random.below(tones)] = random.pick(&[8, 15, 16, 128, 255]),
         2 => {
-            let length = random.pick(&[0, tones - 1, tones + 1, 2 * tones, 256, 9 * tones]);
+            let length = random.pick(&[0, tones - 1, tones + 1, 2 * tones, 256, TONES, 9 * tones]);
             start.resize(length, random.pick(&[0, 1, 255]));
         }
         3 if random.once_in(3) => start = random.bytes(tones),
@@ -274,6 +287,135 @@ fn start_within(random: &mut Random, limits: &[u8], loaded: &[u8]) -> Vec<u8> {
 #[cfg(test)]
 mod tests {
     use super::*;
+    use crate::paper::line::{Command, LARGEST_SHEET, TWIN};
+    use crate::paper::Refusal;
+    use crate::sheets::named;
+    use std::collections::BTreeMap;
+
+    type Sorts = Vec<(&'static str, bool)>;
+
+    /// The commands that describe a tone.
+    const DESCRIBE: [u8; 4] = [4, 5, 9, 10];
+
+    /// The commands of a sheet as far as they are whole, and the place after them.
+    fn whole(sheet: &[u8]) -> (Vec<&[u8]>, usize) {
+        let (mut commands, mut at) = (Vec::new(), 0);
+        while let Some(command) = sheet.get(at).and_then(|byte| Command::of(*byte)) {
+            let Some(bytes) = sheet.get(at..at + command.length()) else { break };
+            commands.push(bytes);
+            at += bytes.len();
+        }
+        (commands, at)
+    }
+
+    fn is_twin(command: &[u8]) -> bool {
+        Command::of(command[0]).is_some_and(|command| command.is_twin)
+    }
+
+    /// Whether one of some commands of other width names the same tone, before a command.
+    fn follows(before: &[&[u8]], command: &[u8], shorts: &[u8]) -> bool {
+        let width = if is_twin(command) { 0 } else { TWIN };
+        let is_other = |other: &[u8]| {
+            shorts.iter().any(|short| other[0] == short + width) && named(other) == named(command)
+        };
+        before.iter().any(|other| is_other(other))
+    }
+
+    /// Whether a loading for most bits ends between equal steps of tones 255 and 256.
+    fn ends_at_256(line: &Line) -> bool {
+        let mut run = Running::nothing(line);
+        run.add_all();
+        match (run.latest_held(), run.earliest_free()) {
+            (Some((held, 255)), Some((free, 256))) => held == free,
+            _ => false,
+        }
+    }
+
+    /// What is to be seen of a sheet that is accepted.
+    fn sorts_of_sheet(sheet: &[u8], line: &Line) -> Sorts {
+        let commands = whole(sheet).0;
+        let has = |byte| commands.iter().any(|command| command[0] == byte);
+        let low = |twin| {
+            let of = |command: &&&[u8]| is_twin(command) == twin;
+            commands.iter().filter(of).any(|command| named(command).is_some_and(|tone| tone < 256))
+        };
+        let rest = |byte: u8| {
+            let other = |place| follows(&commands[..place], commands[place], &DESCRIBE);
+            (0..commands.len()).any(|place| commands[place][0] == byte && other(place))
+        };
+        let word = |command: &[u8], from: u8| command[0] == 6 && command[1] >= from;
+        let silences =
+            |from| commands.iter().any(|command| word(command, from) && command[2..] != [0; 4]);
+        let beyond = |command: &&[u8]| word(command, line.tones.div_ceil(32) as u8);
+        vec![
+            ("14", has(0x14)),
+            ("15", has(0x15)),
+            ("19", has(0x19)),
+            ("1A", has(0x1a)),
+            ("1B", has(0x1b)),
+            ("a twin below 256", low(true)),
+            ("both below 256", low(true) && low(false)),
+            ("0B of a tone by a twin", rest(0x0b)),
+            ("1B of a tone by a short command", rest(0x1b)),
+            ("a tone from 256 on", line.described.iter().skip(256).any(Option::is_some)),
+            ("tone 1,023", line.described.get(1023).is_some_and(Option::is_some)),
+            ("a silenced tone from 256 on", silences(8)),
+            ("a silenced tone of word 31", silences(31)),
+            ("an empty word beyond the line", commands.iter().any(beyond)),
+            ("1,024 tones", line.tones == TONES && line.count_described() == 1024),
+            ("over 4,096 bytes", sheet.len() > 4_096),
+            ("32,768 bytes", sheet.len() == LARGEST_SHEET),
+            ("an end at 256", line.tones > 256 && ends_at_256(line)),
+        ]
+    }
+
+    /// What is to be seen of a sheet that is refused.
+    fn sorts_of_refusal(sheet: &[u8], Refusal { number, place }: Refusal) -> Sorts {
+        let (commands, end) = whole(&sheet[..place.min(sheet.len())]);
+        let rest = &sheet[end..];
+        let twin = number > 1 && number != 7 && !rest.is_empty() && is_twin(rest);
+        let again = |of: u32, twin, shorts| {
+            number == of && is_twin(rest) == twin && follows(&commands, rest, shorts)
+        };
+        vec![
+            ("1 at 32,769 bytes", number == 1 && sheet.len() == LARGEST_SHEET + 1),
+            ("2 between the bytes of a tone", number == 2 && twin && rest.len() == 2),
+            ("4 by 1,025 tones", (number, place) == (4, 1) && sheet[1..3] == [4, 1]),
+            ("4 by word 32", number == 4 && rest[..2] == [6, 32]),
+            ("4 in a twin", number == 4 && twin),
+            ("5 in a twin", number == 5 && twin),
+            ("5 in a twin of 1B", number == 5 && rest[0] == 0x1b),
+            ("5 by a word from 8 on", number == 5 && rest[0] == 6 && rest[1] >= 8),
+            ("6 in a twin", number == 6 && twin),
+            ("6 in a twin after a short command", again(6, true, &DESCRIBE)),
+            ("6 in a short command after a twin", again(6, false, &DESCRIBE)),
+            ("12 in a twin", number == 12 && twin),
+            ("13 in a twin", number == 13 && twin),
+            ("14 in a twin", number == 14 && twin),
+            ("14 in 1B after 0B", again(14, true, &[11])),
+            ("14 in 0B after 1B", again(14, false, &[11])),
+            ("15 in a twin", number == 15 && twin),
+        ]
+    }
+
+    /// Twins, tones from 256 on, words from 8 on and long sheets are met in every way that is
+    /// accepted or refused.
+    #[test]
+    fn thousand_tones() {
+        let mut counts = BTreeMap::new();
+        for index in 0..30_000 {
+            let sheet = sheet(&mut Random::new(1, index), index);
+            let sorts = match read_bytes(&sheet) {
+                Ok(line) => sorts_of_sheet(&sheet, &line),
+                Err(refusal) => sorts_of_refusal(&sheet, refusal),
+            };
+            for (sort, is) in sorts {
+                *counts.entry(sort).or_insert(0) += u32::from(is);
+            }
+        }
+        let all = counts.len() == 35 && counts.values().all(|&count| count > 5);
+        assert!(all, "sheets: {counts:#?}");
+    }
 
     /// Where 16 refuses a sheet, there are inputs of which no other refusal could be given,
     /// and ones for each of 8 to 11.

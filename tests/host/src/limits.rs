@@ -3,10 +3,10 @@
 use crate::calls::{self, Call, Outcome};
 use crate::inputs::Input;
 use crate::paper::{BYTES_A_LIMIT, BYTES_A_TONE};
-use crate::totals::{entries, tones};
+use crate::totals::{entries, number, tones};
 
 /// No tone of the loading for most bits has more than its limit; a re-fit may start
-/// from the limits, and not from one bit more on a tone. Which tone is picked by a byte
+/// from the limits, and not from one bit more on a tone. Which tone is picked by two bytes
 /// that the answer buffer happens to hold.
 pub fn judge(input: &Input, outcome: &Outcome) -> Result<(), String> {
     let tones = tones(input);
@@ -25,7 +25,7 @@ pub fn judge(input: &Input, outcome: &Outcome) -> Result<(), String> {
     if calls::ours(Call::RefitStep, &input)?.returned != 0 {
         return Err("a re-fit does not start from the limits".to_string());
     }
-    let tone = usize::from(input.answer[0]) % tones;
+    let tone = number(&input.answer[..2]) as usize % tones;
     input.start[tone] += 1;
     if calls::ours(Call::RefitStep, &input)?.returned != 10 << 32 | tone as u64 {
         return Err(format!("a re-fit from one bit more on tone {tone} is not refused there"));

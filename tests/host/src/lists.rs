@@ -28,20 +28,23 @@ pub struct Around {
     budget: u64,
     /// Of the line as it is loaded, whatever its own budget.
     powers: Vec<u64>,
-    /// How many loadings may be made, mostly.
+    /// How many loadings may be made, but once in so many lists.
     loadings: usize,
+    but_once_in: usize,
 }
 
 impl Around {
     pub fn line(line: &Line, powers: Vec<u64>) -> Around {
         let loadings = MOST_SCANNED / (line.tones * powers.len());
-        Around { rests: line.sum_of_rests(), budget: line.budget, powers, loadings }
+        let but_once_in = if line.tones > 256 { 4 } else { 40 };
+        let (rests, budget) = (line.sum_of_rests(), line.budget);
+        Around { rests, budget, powers, loadings, but_once_in }
     }
 
     /// Around nothing: the sheet is refused.
     pub fn any(random: &mut Random) -> Around {
         let powers = vec![0, random.sized(LARGEST_POWER)];
-        Around { rests: 0, budget: 0, powers, loadings: MOST_BUDGETS }
+        Around { rests: 0, budget: 0, powers, loadings: MOST_BUDGETS, but_once_in: 40 }
     }
 
     fn budget(&self, random: &mut Random) -> u64 {
@@ -100,7 +103,7 @@ impl Around {
             let budgets = self.above_rests(random, count.max(any));
             return damaged(random, budgets);
         }
-        let most = if random.once_in(40) { MOST_BUDGETS } else { self.loadings };
+        let most = if random.once_in(self.but_once_in) { MOST_BUDGETS } else { self.loadings };
         to_bytes(&self.above_rests(random, count.min(most.max(2))))
     }
 }
@@ -202,6 +205,7 @@ mod tests {
             ("one budget", count == 1),
             ("32 budgets", count == 32),
             ("32 budgets on 256 tones", count == 32 && line.tones == 256),
+            ("32 budgets on more", count == 32 && line.tones > 256),
             ("equal neighbours", equal > 0 && equal < count - 1),
             ("all equal", count > 1 && equal == count - 1),
             ("all different", count == 32 && equal == 0),
@@ -278,7 +282,7 @@ mod tests {
     #[test]
     fn lists_of_every_sort() {
         let counts = count(sorts_of_list);
-        let all = counts.len() == 22 && counts.values().all(|&count| count > 5);
+        let all = counts.len() == 23 && counts.values().all(|&count| count > 5);
         assert!(all, "lists: {counts:#?}");
     }
 

@@ -1,5 +1,5 @@
 //! An independent loader, written from document 01 and document 02's requests W1, W3,
-//! W5, W6 and W7: the six calls as the C host makes them, the limits and many budgets by
+//! W5, W6, W7 and W8: the six calls as the C host makes them, the limits and many budgets by
 //! its conventions, and what the bench program prints. It keeps each tone's next free and
 //! last held step; each move scans all of them for the earliest free and the latest held.
 
@@ -10,9 +10,11 @@ pub mod reading;
 pub mod run;
 #[cfg(test)]
 mod sample;
+#[cfg(test)]
+mod twins;
 
 use gap::Gap;
-use line::{read, Given, Kind, Line, Tone, REST_BYTES};
+use line::{read, Command, Given, Line, Tone};
 use reading::Reading;
 use run::Running;
 
@@ -141,22 +143,26 @@ impl Tidy<'_> {
         }
     }
 
+    /// The byte and the tone of the shortest command.
+    fn put_command(&mut self, short: u8, tone: usize) {
+        let command = Command::shortest(short, tone);
+        let bytes = (tone as u16).to_be_bytes();
+        self.put(&[command.byte()]);
+        self.put(&bytes[bytes.len() - command.tone_bytes()..]);
+    }
+
     fn put_tone(&mut self, number: usize, tone: &Tone) {
+        self.put_command(tone.short(), number);
         match tone.given {
             Given::Whole { noise, gain } => {
-                self.put(&[if tone.kind == Kind::Pair { 4 } else { 5 }, number as u8]);
                 self.put(&noise.to_be_bytes());
                 self.put(&gain.to_be_bytes());
             }
             Given::Read(Reading::NoiseAndGain(noise, gain)) => {
-                self.put(&[9, number as u8]);
                 self.put(&noise.to_be_bytes());
                 self.put(&gain.to_be_bytes());
             }
-            Given::Read(Reading::Ratio(ratio)) => {
-                self.put(&[10, number as u8]);
-                self.put(&ratio.to_be_bytes());
-            }
+            Given::Read(Reading::Ratio(ratio)) => self.put(&ratio.to_be_bytes()),
         }
         self.put(&[tone.cap]);
         self.put(&tone.mask.to_be_bytes());
@@ -164,7 +170,7 @@ impl Tidy<'_> {
 
     fn put_rest(&mut self, number: usize, rest: u32) {
         if rest != 0 {
-            self.put(&[11, number as u8]);
+            self.put_command(11, number);
             self.put(&rest.to_be_bytes());
         }
     }
@@ -193,9 +199,15 @@ impl Tidy<'_> {
 
 pub fn tidy_length(line: &Line) -> usize {
     let words = line.silenced.iter().filter(|map| **map != 0).count();
-    let tones: usize = line.described.iter().flatten().map(Tone::length).sum();
-    let rests = line.rests.iter().filter(|rest| **rest != 0).count();
-    3 + line.gap.length() + 9 + tones + REST_BYTES * rests + 6 * words + 1
+    let mut length = 3 + line.gap.length() + 9 + 6 * words + 1;
+    for (number, tone) in line.described.iter().enumerate() {
+        let Some(tone) = tone else { continue };
+        length += Command::shortest(tone.short(), number).length();
+        if line.rests[number] != 0 {
+            length += Command::shortest(11, number).length();
+        }
+    }
+    length
 }
 
 pub fn tidy(sheet: &[u8], tidy: &mut [u8], answer: &mut [u8]) -> u64 {

@@ -3,11 +3,12 @@
 use crate::compare::hex;
 use crate::inputs;
 use crate::paper::gap::{Gap, MOST_TENTHS};
-use crate::paper::line::LARGEST_SHEET;
+use crate::paper::line::{LARGEST_SHEET, TONES};
 use crate::paper::printed;
 use crate::paper::reading::Reading;
 use crate::random::Random;
-use crate::sheets::{bare, reading, rest, silence, tone, IN_TENTHS, READINGS, RESTS, SAMPLE};
+use crate::sheets::{bare, reading, rest, silence, tone};
+use crate::sheets::{IN_TENTHS, READINGS, RESTS, SAMPLE, TWINS};
 use std::io::{ErrorKind, Write};
 use std::path::{Path, PathBuf};
 use std::process::{Command, Stdio};
@@ -20,15 +21,15 @@ const SEED: u64 = 2;
 const EXAMPLES: [&str; 7] =
     ["analyser", "long_cable", "refused", "sample", "short_cable", "spliced_pair", "tracked_tones"];
 /// Sheets that any comparison should have, before the random ones.
-const FIXED: u64 = 23;
+const FIXED: u64 = 27;
 
-/// A sheet as long as one that is accepted can be: 4,096 bytes, or 4,095 where the
+/// A sheet as long as one that is accepted can be: 32,768 bytes, or 32,767 where the
 /// gap is in tenths.
 fn longest(gap: Gap) -> Vec<u8> {
-    let mut commands = bare(64, gap, 1000);
-    while commands.concat().len() + 6 <= LARGEST_SHEET {
-        commands.insert(3, silence(0, 0));
-    }
+    let mut commands = bare(TONES, gap, 1000);
+    commands.insert(3, tone(false, TONES - 1, 9, 2, 15, 500));
+    let left = LARGEST_SHEET - commands.concat().len();
+    commands.splice(3..3, (0..left / 6).map(|_| silence(31, 0)));
     commands.concat()
 }
 
@@ -46,17 +47,11 @@ fn with_ratio(ratio: f32) -> Vec<u8> {
     sheet
 }
 
-/// A line on which each tone is the same reading, for as many tones as fit.
+/// A full line on which each tone is the same reading.
 fn full_of(read: Reading) -> Vec<u8> {
-    let mut commands = bare(256, Gap::Whole(300), 5_000);
-    let mut length = commands.concat().len();
-    for number in 0..=255 {
-        let tone = reading(number, read, 15, 1_000);
-        length += tone.len();
-        if length <= LARGEST_SHEET {
-            commands.insert(commands.len() - 1, tone);
-        }
-    }
+    let mut commands = bare(TONES, Gap::Whole(300), 5_000);
+    let tones = (0..TONES).map(|number| reading(number, read, 15, 1_000));
+    commands.splice(3..3, tones);
     commands.concat()
 }
 
@@ -67,17 +62,11 @@ fn at_budget(budget: u64) -> Vec<u8> {
     sheet
 }
 
-/// A line on which each tone costs 5 and has a rest of 2, for as many tones as fit.
-fn full_of_rests() -> Vec<u8> {
-    let mut commands = bare(256, Gap::Whole(256), 1_000);
-    let mut length = commands.concat().len();
-    for number in 0..=255 {
-        let with_rest = [tone(false, number, 5, 1, 15, 100), rest(number, 2)].concat();
-        length += with_rest.len();
-        if length <= LARGEST_SHEET {
-            commands.insert(commands.len() - 1, with_rest);
-        }
-    }
+/// A full line on which each tone costs 5 and has a rest of 2: its rests add up to 2,048.
+fn full_of_rests(budget: u64) -> Vec<u8> {
+    let mut commands = bare(TONES, Gap::Whole(256), budget);
+    let with_rest = |number| [tone(false, number, 5, 1, 15, 100), rest(number, 2)].concat();
+    commands.splice(3..3, (0..TONES).map(with_rest));
     commands.concat()
 }
 
@@ -88,11 +77,11 @@ fn sheet(index: u64) -> Vec<u8> {
         1 => SAMPLE.to_vec(),
         2 => long,
         3 => [&long[..], &[7]].concat(),
-        4 => [&SAMPLE[..], &[7; 4096]].concat(),
+        4 => [&SAMPLE[..], &[7; LARGEST_SHEET]].concat(),
         5 => [&long[..], &long[..]].concat(),
         6 => [&SAMPLE[..], &[0; 200_000]].concat(),
-        7 => vec![1; 4097],
-        8 => long[..4095].to_vec(),
+        7 => vec![1; LARGEST_SHEET + 1],
+        8 => long[..LARGEST_SHEET - 1].to_vec(),
         9 => IN_TENTHS.to_vec(),
         10 => in_tenths(MOST_TENTHS),
         11 => in_tenths(MOST_TENTHS + 1),
@@ -107,7 +96,13 @@ fn sheet(index: u64) -> Vec<u8> {
         19 => at_budget(66_060),
         20 => at_budget(66_061),
         21 => at_budget(66_061 + 23),
-        22 => full_of_rests(),
+        // The steps of tones 0 to 255 fit, and not that of tone 256.
+        22 => full_of_rests(2_048 + 3 * 256),
+        23 => full_of_rests(2_047),
+        24 => TWINS.to_vec(),
+        // It ends between the bytes of a tone.
+        25 => TWINS[..17].to_vec(),
+        26 => [&[1, 4, 1], &TWINS[3..]].concat(),
         FIXED.. => inputs::sheet(&mut Random::new(SEED, index), index),
     }
 }
@@ -125,7 +120,7 @@ fn output(program: &Path, sheet: &[u8], in_pieces: bool) -> Result<String, Strin
     let pieces = if in_pieces { 3 } else { 1 };
     for piece in sheet.chunks(sheet.len() / pieces + 1) {
         match stdin.write_all(piece) {
-            // It need not read what comes after 4,096 bytes.
+            // It need not read what comes after the longest sheet.
             Err(error) if error.kind() == ErrorKind::BrokenPipe => break,
             result => result.map_err(told)?,
         }
@@ -171,7 +166,7 @@ pub fn compare(program: &Path) -> Result<String, String> {
         one(program, index)?;
         too_long += u64::from(sheet(index).len() > LARGEST_SHEET);
     }
-    Ok(format!("{SHEETS} sheets, {too_long} of them over 4096 bytes"))
+    Ok(format!("{SHEETS} sheets, {too_long} of them over {LARGEST_SHEET} bytes"))
 }
 
 /// A sheet in readable hex: blanks between the bytes, comments from # on.

@@ -2,10 +2,12 @@
 
 use crate::floats;
 use crate::paper::gap::{Gap, MOST_TENTHS};
-use crate::paper::line::{power, read, Given, Kind, Tone, LARGEST_POWER, LARGEST_SHEET};
+use crate::paper::line::{power, read, Command, Given, Kind, Tone};
+use crate::paper::line::{LARGEST_POWER, LARGEST_SHEET, TONES, TWIN, WORDS};
 use crate::paper::reading::{Reading, LARGEST_COST};
 use crate::paper::run::Running;
 use crate::random::Random;
+use crate::totals;
 
 /// A sheet as its commands, so that damage can move them about.
 pub type Commands = Vec<Vec<u8>>;
@@ -48,6 +50,19 @@ pub const RESTS: [u8; 64] = [
     11, 2, 0, 0, 0, 10, 11, 1, 0, 1, 2, 3, 6, 0, 0, 0, 0, 0, 7,
 ];
 
+/// A sheet of 1,024 tones with twins, of tones below 256 too, with rests by either command of
+/// 0B, and with a silence of the last word. The first steps of tones 255, 256 and 1,023 are
+/// 3, and the budget carries two of them.
+pub const TWINS: [u8; 103] = [
+    1, 4, 0, 2, 1, 0, 3, 0, 0, 0, 0, 0, 0, 0, 12, //
+    0x15, 3, 255, 0, 1, 0, 1, 7, 0, 0, 0, 0, 0, 0, 0, 100, //
+    0x14, 1, 0, 0, 5, 0, 1, 2, 0, 0, 0, 0, 0, 0, 0, 100, //
+    0x1a, 0, 255, 0x40, 0xa0, 0, 0, 15, 0, 0, 0, 0, 0, 0, 0, 100, //
+    0x1b, 1, 0, 0, 0, 0, 2, 11, 255, 0, 0, 0, 2, //
+    6, 31, 0x40, 0, 0, 0, //
+    0x19, 3, 254, 0x40, 0xc0, 0, 0, 0x40, 0, 0, 0, 9, 0, 0, 0, 0, 0, 0, 0, 100, 7,
+];
+
 /// How the tones of one line compare.
 #[derive(Clone, Copy)]
 enum Likeness {
@@ -78,13 +93,56 @@ struct Plan {
     /// where they can.
     rests: usize,
     first_step: u64,
+    /// How many commands in four that name a tone below 256 are twins.
+    twins: usize,
 }
 
+/// A tone as a command names it.
+#[derive(Clone, Copy)]
+pub struct Name {
+    number: usize,
+    is_twin: bool,
+}
+
+/// By the shortest command.
+impl From<usize> for Name {
+    fn from(number: usize) -> Name {
+        Name { number, is_twin: number > 255 }
+    }
+}
+
+impl Name {
+    /// By a twin, if it has to be, and else in so many of four.
+    fn new(random: &mut Random, number: usize, twins: usize) -> Name {
+        Name { number, is_twin: number > 255 || random.below(4) < twins }
+    }
+
+    /// By any command that can.
+    pub fn any(random: &mut Random, number: usize) -> Name {
+        Name::new(random, number, 2)
+    }
+
+    /// The first bytes of a command: its own and the tone's.
+    fn begin(self, short: u8) -> Vec<u8> {
+        let Name { number, is_twin } = self;
+        let command = Command { short, is_twin };
+        let tone = (number as u16).to_be_bytes();
+        [&[command.byte()][..], &tone[2 - command.tone_bytes()..]].concat()
+    }
+}
+
+/// Once in so many a line has more than 256 tones: each takes long to load.
+const LARGE: usize = 40;
+
 fn tones(random: &mut Random) -> usize {
+    if random.once_in(LARGE) {
+        let any = random.between(257, TONES as u64 - 1) as usize;
+        return random.pick(&[257, 288, 511, 512, 513, any, any, any, TONES, TONES, TONES, TONES]);
+    }
     let (low, high) = match random.below(8) {
         0 => return 1,
         1 => return random.pick(&[31, 32, 33, 63, 64, 65]),
-        2 => return random.pick(&[163, 194, 213, 214, 215, 224, 225, 255, 256, 256, 256, 256]),
+        2 => return random.pick(&[160, 192, 193, 224, 225, 255, 255, 256, 256, 256, 256]),
         3 => (65, 256),
         4 => (17, 64),
         5 => (2, 4),
@@ -111,21 +169,24 @@ impl Plan {
         use Likeness::*;
         let likeness = random.pick(&[Equal, Ties, Ties, Cable, Edges, Any]);
         let small = random.pick(&[1, 1, 2, 3, 4, 6]);
+        // All by 09 and with a rest, so that the sheet is as long as a line can make it.
+        let longest = tones == TONES && random.once_in(6);
         Plan {
             tones,
             gap: some_gap(random, matches!(likeness, Ties)),
             likeness,
             equal: random.pick(&[(17, 5), (1, 1), (65_535, 1), (1, 65_535)]),
             singles: random.pick(&[0, 1, 2, 4]),
-            readings: random.pick(&[0, 0, 1, 2, 4]),
-            ratios: random.pick(&[0, 2, 4]),
+            readings: if longest { 4 } else { random.pick(&[0, 0, 1, 2, 4]) },
+            ratios: if longest { 0 } else { random.pick(&[0, 2, 4]) },
             tight_caps: random.once_in(3),
             tight_masks: random.once_in(2),
-            rests: random.pick(&[0, 0, 0, 1, 2, 4, 4]),
+            rests: if longest { 4 } else { random.pick(&[0, 0, 0, 1, 2, 4, 4]) },
             first_step: match likeness {
                 Ties => small,
                 _ => random.sized(LARGEST_COST).max(1),
             },
+            twins: random.pick(&[0, 0, 0, 0, 1, 2, 4]),
         }
     }
 
@@ -219,28 +280,36 @@ pub fn largest_rest(tone: &Tone, gap: u64) -> u64 {
 }
 
 /// The command that describes a tone, as it stands in a sheet.
-pub fn description(number: u8, Tone { kind, given, cap, mask }: Tone) -> Vec<u8> {
+pub fn description(name: Name, Tone { kind, given, cap, mask }: Tone) -> Vec<u8> {
     match given {
-        Given::Whole { noise, gain } => tone(kind == Kind::Single, number, noise, gain, cap, mask),
-        Given::Read(read) => reading(number, read, cap, mask),
+        Given::Whole { noise, gain } => tone(kind == Kind::Single, name, noise, gain, cap, mask),
+        Given::Read(read) => reading(name, read, cap, mask),
     }
 }
 
 /// Command 09 or 0A, with any floats.
-pub fn reading(number: u8, reading: Reading, cap: u8, mask: u64) -> Vec<u8> {
+pub fn reading(name: impl Into<Name>, reading: Reading, cap: u8, mask: u64) -> Vec<u8> {
+    let name = name.into();
     let mut bytes = match reading {
         Reading::NoiseAndGain(noise, gain) => {
-            [&[9, number][..], &noise.to_be_bytes(), &gain.to_be_bytes()].concat()
+            [&name.begin(9)[..], &noise.to_be_bytes(), &gain.to_be_bytes()].concat()
         }
-        Reading::Ratio(ratio) => [&[10, number][..], &ratio.to_be_bytes()].concat(),
+        Reading::Ratio(ratio) => [&name.begin(10)[..], &ratio.to_be_bytes()].concat(),
     };
     bytes.push(cap);
     bytes.extend(mask.to_be_bytes());
     bytes
 }
 
-pub fn tone(single: bool, number: u8, noise: u16, gain: u16, cap: u8, mask: u64) -> Vec<u8> {
-    let mut bytes = vec![if single { 5 } else { 4 }, number];
+pub fn tone(
+    single: bool,
+    name: impl Into<Name>,
+    noise: u16,
+    gain: u16,
+    cap: u8,
+    mask: u64,
+) -> Vec<u8> {
+    let mut bytes = name.into().begin(if single { 5 } else { 4 });
     bytes.extend(noise.to_be_bytes());
     bytes.extend(gain.to_be_bytes());
     bytes.push(cap);
@@ -248,12 +317,23 @@ pub fn tone(single: bool, number: u8, noise: u16, gain: u16, cap: u8, mask: u64)
     bytes
 }
 
-pub fn describes_a_tone(command: &[u8]) -> bool {
-    matches!(command[0], 4 | 5 | 9 | 10)
+/// The tone that a command names, if it has one.
+pub fn named(command: &[u8]) -> Option<usize> {
+    let has = Command::of(command[0]).filter(|command| command.has_tone())?;
+    Some(totals::number(command.get(1..1 + has.tone_bytes())?) as usize)
 }
 
-pub fn rest(number: u8, rest: u32) -> Vec<u8> {
-    let mut bytes = vec![11, number];
+pub fn describes_a_tone(command: &[u8]) -> bool {
+    Command::of(command[0]).is_some_and(Command::describes_a_tone)
+}
+
+/// Whether a command describes this tone.
+pub fn describes(command: &[u8], number: usize) -> bool {
+    describes_a_tone(command) && named(command) == Some(number)
+}
+
+pub fn rest(name: impl Into<Name>, rest: u32) -> Vec<u8> {
+    let mut bytes = name.into().begin(11);
     bytes.extend(rest.to_be_bytes());
     bytes
 }
@@ -266,7 +346,8 @@ pub fn silence(word: u8, map: u32) -> Vec<u8> {
 
 /// A silence that names tones of the line only; often few, sometimes none.
 pub fn some_silence(random: &mut Random, tones: usize) -> Vec<u8> {
-    let word = random.below(8);
+    let of_line = random.below(tones.div_ceil(32).max(8));
+    let word = if random.once_in(12) { random.below(WORDS) } else { of_line };
     let on_line = tones.saturating_sub(32 * word).min(32);
     let within = ((1u64 << on_line) - 1) as u32;
     let any = random.next();
@@ -323,11 +404,36 @@ fn described(random: &mut Random, tones: usize) -> Vec<usize> {
     numbers
 }
 
+/// A power at which the tone decides between a step of tone 255 and one of tone 256, if a
+/// loading comes to one.
+fn at_256(random: &mut Random, mut run: Running) -> Option<u64> {
+    let (mut last, mut found) = (None, None);
+    while let Some((size, tone)) = run.earliest_free() {
+        if tone == 256 && last == Some((size, 255)) {
+            found = Some(run.total_power + random.pick(&[0, 0, size - 1]));
+            if random.once_in(2) {
+                break;
+            }
+        }
+        last = Some((size, tone));
+        if !run.add() {
+            break;
+        }
+    }
+    found
+}
+
 /// A budget: at an end, exactly at what some table needs or next to it, or any; but never
 /// under the rests.
 fn budget(random: &mut Random, commands: &Commands) -> u64 {
-    let mut run = Running::nothing(&read(&commands.concat()).expect("a valid sheet"));
-    let full: Vec<u8> = run.limit[..run.tones].to_vec();
+    let line = read(&commands.concat()).expect("a valid sheet");
+    let mut run = Running::nothing(&line);
+    if run.tones > 256 && random.once_in(3) {
+        if let Some(budget) = at_256(random, Running::nothing(&line)) {
+            return budget;
+        }
+    }
+    let full = run.limit.clone();
     let bits: usize = full.iter().map(|bits| usize::from(*bits)).sum();
     let full_power = (0..run.tones).map(|tone| run.power_at(tone, full[tone])).sum();
     let rests = run.total_power;
@@ -357,40 +463,35 @@ fn budget(random: &mut Random, commands: &Commands) -> u64 {
 fn put_rests(random: &mut Random, commands: &mut Commands, rests: Commands) {
     let straight = random.once_in(3);
     for rest in rests {
-        let of_tone = |command: &Vec<u8>| describes_a_tone(command) && command[1] == rest[1];
+        let number = named(&rest).expect("a tone");
+        let of_tone = |command: &Vec<u8>| describes(command, number);
         let next = 1 + commands.iter().position(of_tone).expect("its tone is described");
         let any = random.between(next as u64, commands.len() as u64 - 1) as usize;
         commands.insert(if straight { next } else { any }, rest);
     }
 }
 
-/// The tones that do not fit, of the longer readings or with their rests, are not
-/// described.
+/// A sheet has room for a full line by the longest twins, with a rest on each tone and some
+/// silences.
 fn commands_of(random: &mut Random, tones: usize) -> Commands {
     let plan = Plan::new(random, tones);
     let mut commands = bare(tones, plan.gap, LARGEST_POWER);
-    let mut left = LARGEST_SHEET - commands.concat().len();
+    let end = commands.pop();
     let mut rests = Vec::new();
     for number in described(random, tones) {
         let tone = plan.tone(random, number);
-        let rested = random.below(4) < plan.rests;
-        let rest = rest(number as u8, plan.rest(random, &tone));
-        let tone = description(number as u8, tone);
-        let length = tone.len() + if rested { rest.len() } else { 0 };
-        if length <= left {
-            left -= length;
-            commands.insert(commands.len() - 1, tone);
-            rests.extend(rested.then_some(rest));
+        if random.below(4) < plan.rests {
+            let name = Name::new(random, number, plan.twins);
+            rests.push(rest(name, plan.rest(random, &tone)));
         }
+        let name = Name::new(random, number, plan.twins);
+        commands.push(description(name, tone));
     }
+    commands.extend(end);
     put_rests(random, &mut commands, rests);
     for _ in 0..random.pick(&[0, 0, 1, 2, 12]) {
         let place = 3 + random.below(commands.len() - 3);
-        let silence = some_silence(random, tones);
-        if silence.len() <= left {
-            left -= silence.len();
-            commands.insert(place, silence);
-        }
+        commands.insert(place, some_silence(random, tones));
     }
     let budget = budget(random, &commands);
     commands[2][1..].copy_from_slice(&budget.to_be_bytes());
@@ -407,15 +508,29 @@ pub fn commands(random: &mut Random) -> Commands {
     commands
 }
 
-/// Silences, most of them empty, up to so many bytes or as near below as they come.
+/// The twin of a command, which says the same.
+fn widened(command: &[u8]) -> Vec<u8> {
+    let mut bytes = Name { number: command[1].into(), is_twin: true }.begin(command[0]);
+    bytes.extend(&command[2..]);
+    bytes
+}
+
+/// Silences, most of them empty, up to so many bytes. Where they do not come to that, some
+/// commands become twins, if there are enough.
 pub fn fill(random: &mut Random, commands: &mut Commands, tones: usize, bytes: usize) {
-    let mut length = commands.concat().len();
-    while length + 6 <= bytes {
-        let empty = silence(random.below(8) as u8, 0);
-        let some = some_silence(random, tones);
-        commands.insert(3, if random.once_in(100) { some } else { empty });
-        length += 6;
+    let left = bytes - commands.concat().len();
+    let mut lacking = left % 6;
+    for command in commands.iter_mut() {
+        if lacking > 0 && named(command).is_some() && command[0] < TWIN {
+            *command = widened(command);
+            lacking -= 1;
+        }
     }
+    let silences = (0..left / 6).map(|_| match random.once_in(800) {
+        true => some_silence(random, tones),
+        false => silence(random.below(WORDS) as u8, 0),
+    });
+    commands.splice(3..3, silences);
 }
 
 /// A valid sheet of one to three tones: few enough tables to try them all.
@@ -423,6 +538,14 @@ pub fn fill(random: &mut Random, commands: &mut Commands, tones: usize, bytes: u
 pub fn small(seed: u64, index: u64) -> Vec<u8> {
     let mut random = Random::new(seed, index);
     let tones = random.between(1, 3) as usize;
+    commands_of(&mut random, tones).concat()
+}
+
+/// A valid sheet of more than 256 tones.
+#[cfg(test)]
+pub fn large(seed: u64, index: u64) -> Vec<u8> {
+    let mut random = Random::new(seed, index);
+    let tones = random.between(257, TONES as u64) as usize;
     commands_of(&mut random, tones).concat()
 }
 
@@ -444,20 +567,24 @@ mod tests {
     /// lines as full of each command of readings as a sheet can be.
     #[test]
     fn tones_of_every_command() {
-        let (mut tones, mut lines) = ([0; 11], [0; 11]);
+        let (mut tones, mut twins, mut lines) = ([0; 11], [0; 11], [0; 11]);
         for index in 0..12_000 {
             let commands = commands(&mut Random::new(1, index));
-            let count = |command| commands.iter().filter(|bytes| bytes[0] == command).count();
+            let count = |byte| commands.iter().filter(|bytes| bytes[0] == byte).count();
             for command in [4, 5, 9, 10] {
-                tones[usize::from(command)] += count(command);
+                let (short, twin) = (count(command), count(command + TWIN));
+                let command = usize::from(command);
+                tones[command] += short;
+                twins[command] += twin;
+                lines[command] += u32::from(short + twin == TONES);
             }
-            lines[9] += u32::from(count(9) == 214);
-            lines[10] += u32::from(count(10) == 256);
         }
-        let all: usize = tones.iter().sum();
-        let share = |command: usize| 8 * tones[command] > all;
-        assert!([4, 5, 9, 10].into_iter().all(share), "tones by command: {tones:?}");
-        assert!(lines[9] >= 5 && lines[10] >= 5, "full lines by command: {lines:?}");
+        for tones in [tones, twins] {
+            let all: usize = tones.iter().sum();
+            let share = |command: usize| 8 * tones[command] > all;
+            assert!([4, 5, 9, 10].into_iter().all(share), "tones by command: {tones:?}");
+        }
+        assert!(lines[4] >= 5 && lines[9] >= 5 && lines[10] >= 1, "full lines: {lines:?}");
     }
 
     /// What is to be seen of a tone's rest that is not 0.
@@ -482,12 +609,14 @@ mod tests {
 
     /// What is to be seen of a sheet's rests.
     fn sorts_of_sheet(line: &Line, commands: &Commands) -> [(&'static str, bool); 5] {
-        let count = |byte| commands.iter().filter(|command| command[0] == byte).count();
+        let of = |short, command: &[u8]| [short, short + TWIN].contains(&command[0]);
+        let count = |short| commands.iter().filter(|command| of(short, command)).count();
+        let zero = |command: &Vec<u8>| of(11, command) && command.ends_with(&[0; 4]);
         let (sum, budget) = (line.sum_of_rests(), line.budget);
         [
-            ("of 0", commands.iter().any(|command| command[0] == 11 && command[2..] == [0; 4])),
-            ("on 194 tones", count(11) == 194),
-            ("on 163 tones of 09", count(11) == 163 && count(9) == 163),
+            ("of 0", commands.iter().any(zero)),
+            ("on 1,024 tones", count(11) == TONES),
+            ("on 1,024 tones of 09", count(11) == TONES && count(9) == TONES),
             ("as large as the budget", sum > 0 && sum == budget),
             ("one below the budget", sum > 0 && sum + 1 == budget),
         ]

@@ -1,5 +1,6 @@
 //! Our time and the independent loader's, side by side; what the time of a step, and that
-//! of the limits, goes to; and the time of many budgets beside that of loadings.
+//! of the limits, goes to; and the time of many budgets beside that of loadings. The lines
+//! are document 01's sample, of three tones, and cables.
 
 use crate::calls::{self, Buffer, Call};
 use crate::inputs::Input;
@@ -12,7 +13,7 @@ use crate::paper::line::{cost, read, Line, LARGEST_POWER};
 use crate::paper::reading::Reading;
 use crate::paper::run::Running;
 use crate::paper::{ANSWER_BYTES, BYTES_A_LIMIT, BYTES_A_TONE};
-use crate::sheets::{bare, reading, rest, silence, tone, with_budget};
+use crate::sheets::{bare, reading, rest, silence, tone, with_budget, SAMPLE};
 use crate::stack;
 use crate::totals::number;
 use std::hint::black_box;
@@ -23,10 +24,11 @@ const ROUNDS: usize = 41;
 /// A round has as many calls as take about so long.
 const ROUND: Duration = Duration::from_millis(1);
 /// How many tones the lines have.
-const TONES: [usize; 3] = [16, 64, 256];
-/// As many tones of 09 as a sheet has room for, and as many of 15 bytes with a rest each.
-const MOST_OF_09: usize = 214;
-const MOST_WITH_RESTS: usize = 194;
+const TONES: [usize; 4] = [16, 64, 256, 1024];
+/// In the place of 256, so many tones by 09 and so many with a rest each: as many as 4,096
+/// bytes hold.
+const SHORT_OF_09: usize = 214;
+const SHORT_WITH_RESTS: usize = 194;
 
 /// How the tones of a line are given.
 #[derive(Clone, Copy, PartialEq, Eq)]
@@ -78,17 +80,16 @@ const SHAPES: [Shape; 9] = [
 /// The lines on which many budgets are timed.
 const WITH_BUDGETS: [Shape; 3] = [BOUND, UNBOUND, RESTED];
 
-/// Each line of each number of tones, or of as many as it can have.
+/// Each line of each number of tones, or of those in its place.
 fn lines<const N: usize>(shapes: [Shape; N]) -> impl Iterator<Item = (usize, Shape)> {
-    TONES.into_iter().flat_map(move |tones| shapes.map(|shape| (shape.most(tones), shape)))
+    TONES.into_iter().flat_map(move |tones| shapes.map(|shape| (shape.tones(tones), shape)))
 }
 
 impl Shape {
-    /// So many tones, or as many as the line can have.
-    fn most(self, tones: usize) -> usize {
+    fn tones(self, tones: usize) -> usize {
         match self.by {
-            By::Floats => tones.min(MOST_OF_09),
-            _ if self.rests => tones.min(MOST_WITH_RESTS),
+            By::Floats if tones == 256 => SHORT_OF_09,
+            _ if self.rests && tones == 256 => SHORT_WITH_RESTS,
             _ => tones,
         }
     }
@@ -107,7 +108,7 @@ impl Shape {
             if self.rests {
                 // Half the cost: on the best tones of a cable, which cost 1, it is 0.
                 let cost = cost(self.gap.value(), noise as u16, gain as u16);
-                commands.insert(commands.len() - 1, rest(number as u8, cost as u32 / 2));
+                commands.insert(commands.len() - 1, rest(number, cost as u32 / 2));
             }
         }
         commands.insert(commands.len() - 1, silence(0, 1 << 5 | 1 << 9));
@@ -125,7 +126,6 @@ impl Shape {
         const MASK: u64 = 40_000;
         let single = number == 0 || number == tones - 1;
         let floats = [noise, gain].map(f32::from);
-        let number = number as u8;
         match self.by {
             By::Whole => tone(single, number, noise, gain, if single { 7 } else { 15 }, MASK),
             By::Floats => {
@@ -150,27 +150,37 @@ impl Shape {
         (0..line.tones).map(|tone| if full(tone) { limit[tone] } else { 0 }).collect()
     }
 
-    /// The target is half of what most bits carries. The budgets are as many as a list may
-    /// have, from one for no bits to one for those, each with as many bits more.
     fn input(self, tones: usize) -> Input {
         let sheet = self.sheet(tones);
-        let line = read(&sheet).expect("a valid sheet");
-        let mut run = Running::nothing(&line);
-        let powers = powers(&mut run);
-        let bits = |budget| run.total_bits as usize * budget / (MOST_BUDGETS - 1);
-        let budgets: Vec<u64> = (0..MOST_BUDGETS).map(|budget| powers[bits(budget)]).collect();
-        Input {
-            start: self.start(&line),
-            target: run.total_bits as u32 / 2,
-            list: to_bytes(&budgets),
-            table: vec![0; BYTES_A_TONE * tones],
-            tidy: vec![0; sheet.len()],
-            answer: vec![0; ANSWER_BYTES],
-            limits: vec![0; BYTES_A_LIMIT * tones],
-            totals: vec![0; BYTES_OF_TOTALS * MOST_BUDGETS],
-            sheet,
-        }
+        let start = self.start(&read(&sheet).expect("a valid sheet"));
+        input(sheet, start)
     }
+}
+
+/// The target is half of what most bits carries. The budgets are as many as a list may
+/// have, from one for no bits to one for those, each with as many bits more.
+fn input(sheet: Vec<u8>, start: Vec<u8>) -> Input {
+    let line = read(&sheet).expect("a valid sheet");
+    let mut run = Running::nothing(&line);
+    let powers = powers(&mut run);
+    let bits = |budget| run.total_bits as usize * budget / (MOST_BUDGETS - 1);
+    let budgets: Vec<u64> = (0..MOST_BUDGETS).map(|budget| powers[bits(budget)]).collect();
+    Input {
+        start,
+        target: run.total_bits as u32 / 2,
+        list: to_bytes(&budgets),
+        table: vec![0; BYTES_A_TONE * line.tones],
+        tidy: vec![0; sheet.len()],
+        answer: vec![0; ANSWER_BYTES],
+        limits: vec![0; BYTES_A_LIMIT * line.tones],
+        totals: vec![0; BYTES_OF_TOTALS * MOST_BUDGETS],
+        sheet,
+    }
+}
+
+/// Document 01's sample, re-fitted from its own start in three moves.
+fn sample() -> Input {
+    input(SAMPLE.to_vec(), vec![0, 2, 3])
 }
 
 /// The time of one call, when so many are made.
@@ -301,16 +311,20 @@ fn row_of_budgets(tones: usize, shape: Shape) -> String {
     format!("{tones:>5} {:<20}{ours:>10.3}{each}{pass}{loading}{stack:>8}\n", shape.name)
 }
 
+/// The rows of a line, one for each call. Many budgets have rows of their own.
+fn rows(name: &str, input: &Input) -> String {
+    let tones = input.start.len();
+    let calls = Call::ALL.into_iter().filter(|call| *call != Call::Budgets);
+    calls.map(|call| format!("{tones:>5} {name:<20}{}\n", row(call, input))).collect()
+}
+
 /// One row for each line and call; times in microseconds, stack in bytes.
 pub fn table() -> String {
     let mut table =
         "tones line                call          ours us  paper us   ratio   stack\n".to_string();
+    table += &rows("sample", &sample());
     for (tones, shape) in lines(SHAPES) {
-        let input = shape.input(tones);
-        // Many budgets have rows of their own.
-        for call in Call::ALL.into_iter().filter(|call| *call != Call::Budgets) {
-            table += &format!("{tones:>5} {:<20}{}\n", shape.name, row(call, &input));
-        }
+        table += &rows(shape.name, &shape.input(tones));
     }
     table += "\nours us of one re-fit step, bound\n";
     table += "tones   reading   limits, ranks, writing   start, move    in all\n";
@@ -337,8 +351,8 @@ pub fn table() -> String {
 /// states.
 pub fn stack(most: u64) -> Result<String, String> {
     let mut largest = 0;
-    for (tones, shape) in lines(SHAPES) {
-        let input = shape.input(tones);
+    let cables = lines(SHAPES).map(|(tones, shape)| shape.input(tones));
+    for input in std::iter::once(sample()).chain(cables) {
         for call in Call::ALL.into_iter().filter(|call| call.is_of_host()) {
             let mut lent = lent(call, &input);
             // SAFETY: four vectors, each with its own length.

@@ -51,17 +51,20 @@ unsafe fn depth(entry: *const (), words: [usize; 8], pattern: u8) -> usize {
 mod tests {
     use std::hint::black_box;
 
-    extern "C" fn uses_10000(byte: u8) {
-        black_box([byte; 10_000]);
+    extern "C" fn uses<const BYTES: usize>(byte: u8) {
+        black_box([byte; BYTES]);
     }
 
     #[test]
     fn finds_the_depth() {
-        for (byte, pattern) in [(0x5a, 0xa5), (0, 0x5a)] {
-            let words = [byte, 0, 0, 0, 0, 0, 0, 0];
-            // SAFETY: the function takes one word and no buffer.
-            let depth = unsafe { super::depth(uses_10000 as *const (), words, pattern) };
-            assert!((10_000..11_000).contains(&depth), "depth {depth}");
+        let functions = [(uses::<10_000> as *const (), 10_000), (uses::<90_000> as _, 90_000)];
+        for (function, bytes) in functions {
+            for (byte, pattern) in [(0x5a, 0xa5), (0, 0x5a)] {
+                let words = [byte, 0, 0, 0, 0, 0, 0, 0];
+                // SAFETY: the function takes one word and no buffer.
+                let depth = unsafe { super::depth(function, words, pattern) };
+                assert!((bytes..bytes + 1_000).contains(&depth), "depth {depth}");
+            }
         }
     }
 }

@@ -23,10 +23,9 @@ pub fn tones(input: &Input) -> usize {
 }
 
 /// The entries of a written table: one byte of bits, eight of power.
-pub fn entries(input: &Input, outcome: &Outcome) -> impl Iterator<Item = Vec<u8>> {
+pub fn entries<'a>(input: &Input, outcome: &'a Outcome) -> impl Iterator<Item = &'a [u8]> {
     let tones = tones(input);
-    let table = outcome.destination[..BYTES_A_TONE * tones].to_vec();
-    (0..tones).map(move |tone| table[BYTES_A_TONE * tone..][..BYTES_A_TONE].to_vec())
+    outcome.destination[..BYTES_A_TONE * tones].chunks_exact(BYTES_A_TONE)
 }
 
 /// Whether an accepted call's totals are the sums over the table that it wrote.

@@ -19,6 +19,9 @@ loop-holds c = filling-starts (λ i. c .before .shared-slice-known .given i .fit
 cast-tone : tie.Need-cast-tone Inv-loop μ-loop
 cast-tone c = omega (arith, size-high (c .before .before .loop .inv .index))
 
+is-silenced-requires : tie.Need-is-silenced-requires Inv-loop μ-loop
+is-silenced-requires c κs = omega (arith, size-high (c .before .before .loop .inv .index))
+
 mul-steps-at : tie.Need-mul-steps-at Inv-loop μ-loop
 mul-steps-at c = record { fits = omega (arith, size-high (c .before .before .before .loop .inv .index)) }
 
@@ -75,7 +78,7 @@ fill-arrays-spec =
     loop-holds
     (λ c. search needs)
     cast-tone
-    (λ c κs. search needs)
+    is-silenced-requires
     mul-steps-at
     element-copy-out-steps-at
     mul-steps-at-2

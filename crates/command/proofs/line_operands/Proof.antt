@@ -1,5 +1,4 @@
 -- `command::line_operands` meets its contract. Assumes nothing.
-use mathlib.Core.Logic.{inl, inr}
 use mathlib.Core.Path.{_≡_}
 use native.Mathlib.Omega.{arith}
 use borrow.Author.Needs.{needs}
@@ -30,7 +29,7 @@ returns-5 c = λ known.
     let k = c .before .before .before .before in
     let high = c .if2 .left in
     let other = c .before .before .match .rest in
-    rw (end-row (k .args .code) (λ e. omega (arith, high)) (λ e. omega (arith, high)) (λ e. omega (arith, high)) (λ e. k .pre .0 (inl (inl e))) (λ e. k .pre .0 (inl (inr e))) (other .0 .1) (other .1) (λ e. k .pre .0 (inr (inl e))) (λ e. k .pre .0 (inr (inr e))) (k .pre .1 .0))
+    rw (end-row (k .args .code) (k .pre .0) (k .pre .1 .0) (λ e. omega (arith, high)) (λ e. omega (arith, high)) (λ e. omega (arith, high)) (other .0 .1) (other .1))
 
 pub line-operands-spec : {M : Type 1} → statement M
 line-operands-spec =

@@ -21,6 +21,9 @@ loop-holds c =
 cast-tone : tie.Need-cast-tone Inv-loop μ-loop
 cast-tone c = omega (arith, size-high (c .before .before .loop .inv .index))
 
+is-silenced-requires : tie.Need-is-silenced-requires Inv-loop μ-loop
+is-silenced-requires c κs = omega (arith, size-high (c .before .before .loop .inv .index))
+
 mul-steps-at : tie.Need-mul-steps-at Inv-loop μ-loop
 mul-steps-at c = record { fits = omega (arith, size-high (c .before .before .before .loop .inv .index)) }
 
@@ -68,7 +71,7 @@ put-limits-spec =
     loop-holds
     (λ c. search needs)
     cast-tone
-    (λ c κs. search needs)
+    is-silenced-requires
     mul-steps-at
     element-copy-out-steps-at
     mul-steps-at-2

@@ -4,7 +4,7 @@ use Prim.Native.Nat.{_/_}
 use native.Mathlib.Omega.{arith}
 use borrow.Author.Needs.{needs}
 use Rattle.steps.specs.Runs.{takeIfFits}
-use Rattle.ranks.specs.Ranks.{noStep}
+use Rattle.ranks.specs.Ranks.{rankBase, noStep}
 use Rattle.moves.specs.declared.Step.{Step}
 use Rattle.moves.proofs.Named.{no-free, free-at, does-not-fit, fitting}
 use Rattle.moves.proofs.take_if_fits.Statement.{statement}
@@ -16,7 +16,7 @@ returns c = λ T t K. rw (no-free K (c .if1 .taken))
 
 add-if2 : tie.Need-add-if2
 add-if2 c =
-    let z : c .before .step-at .result .size ≡ c .before .before .before .args .earliest / 256 = ap (λ (s : Step). s .size) (c .before .step-at .ensures) in
+    let z : c .before .step-at .result .size ≡ c .before .before .before .args .earliest / rankBase = ap (λ (s : Step). s .size) (c .before .step-at .ensures) in
     record { fits = omega (arith, z, c .before .before .before .pre) }
 
 returns-2 : tie.Need-returns-2

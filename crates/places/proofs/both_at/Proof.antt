@@ -7,4 +7,4 @@ returns : tie.Need-returns
 returns c = rw (c .before .float-at .ensures, c .float-at2 .ensures)
 
 pub both-at-spec : {M : Type 1} → statement M
-both-at-spec = tie.close (tie.spec (λ c κs. search needs) (λ c κs. search needs) returns)
+both-at-spec = tie.close (tie.spec (λ c κs. search needs) (λ c. search needs) (λ c κs. search needs) returns)

@@ -11,8 +11,8 @@ returns c = sym (no-rest (c .before .before .args .s .now) (c .before .before .a
 
 returns-2 : tie.Need-returns-2
 returns-2 c =
-    let a = c .before .before .before .args in
-    c .number-at .ensures .0 ∙ sym (rest-there (a .s .now) (a .place) (omega arith))
+    let a = c .before .before .before .before .args in
+    c .number-at .ensures .0 ∙ rw (c .before .carried-at .ensures) (sym (rest-there (a .s .now) (a .place) (omega arith)))
 
 pub rest-at-spec : {M : Type 1} → statement M
-rest-at-spec = tie.close (tie.spec returns (λ c. search needs) (λ c κs. search needs) (λ c. search needs) returns-2)
+rest-at-spec = tie.close (tie.spec returns (λ c κs. search needs) (λ c. search needs) (λ c κs. search needs) (λ c. search needs) returns-2)

@@ -7,7 +7,7 @@ use Rattle.samplebuffers.proofs.text_buffer.Statement.{statement}
 use Rattle.samplebuffers.proofs.text_buffer.Tie as tie
 
 returns : tie.Need-returns
-returns c = (sym (length-replicate {A = ℕ} textRoom 0), λ i l. getD-replicate textRoom i 0 0 l)
+returns c = (sym (length-replicate {A = ℕ} textRoom 0), λ i l. getD-replicate {A = ℕ} textRoom i 0 0 l)
 
 pub text-buffer-spec : {M : Type 1} → statement M
 text-buffer-spec = tie.close (tie.spec returns)

@@ -3,16 +3,17 @@ use mathlib.Core.Path.{_≡_, refl, ap, _∙_}
 use native.Mathlib.Omega.{arith}
 use Prim.Native.Nat.{ℕ, _*_, _-_, _≤_}
 use borrow.Author.Needs.{needs}
+use Rattle.sizes.specs.Sizes.{mostWords}
 use Rattle.silence.specs.Map.{silenced, count}
 use Rattle.silence.proofs.Maps.{counted-le, count-word}
 use Rattle.silence.proofs.silenced_count.Statement.{statement}
 use Rattle.silence.proofs.silenced_count.Tie as tie
 
 abbrev Inv-loop : tie.InvT-loop
-Inv-loop maps n₀ word₀ n word = (word ≤ 8) × (n ≡ count (32 * word) (silenced maps))
+Inv-loop maps n₀ word₀ n word = (word ≤ mostWords) × (n ≡ count (32 * word) (silenced maps))
 
 abbrev μ-loop : tie.MeasureT-loop
-μ-loop maps n₀ word₀ n word = 8 - word
+μ-loop maps n₀ word₀ n word = mostWords - word
 
 loop-holds : tie.Need-loop-holds Inv-loop μ-loop
 unfolding count
@@ -30,7 +31,7 @@ loop-again c =
 returns : tie.Need-returns Inv-loop μ-loop
 returns c =
     let a = c .before in
-    let e : a .loop .word ≡ 8 = omega arith in
+    let e : a .loop .word ≡ mostWords = omega arith in
     a .loop .inv .1 ∙ ap (λ (w : ℕ). count (32 * w) (silenced (a .before .args .maps .now))) e
 
 pub silenced-count-spec : {M : Type 1} → statement M

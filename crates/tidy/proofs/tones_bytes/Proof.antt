@@ -4,7 +4,7 @@ use Prim.Native.Nat.{_+_, _-_, _*_, _≤_}
 use native.Mathlib.Numerals.{add-one}
 use native.Mathlib.Omega.{arith}
 use lib.ListN.{length, getD}
-use Rattle.sizes.specs.Sizes.{levelsCommand, restCommand}
+use Rattle.sizes.specs.Sizes.{levelsCommand}
 use Rattle.lists.proofs.Joined.{length-none, length-next}
 use Rattle.tidy.specs.Copies.{copyAt, copies}
 use Rattle.tidy.proofs.Writes.{length-entry}
@@ -12,7 +12,7 @@ use Rattle.tidy.proofs.tones_bytes.Statement.{statement}
 use Rattle.tidy.proofs.tones_bytes.Tie as tie
 
 abbrev Inv-loop : tie.InvT-loop
-Inv-loop s size places rests bytes₀ i₀ bytes i = (i ≤ size) × (bytes ≡ length (copies i s places rests)) × (bytes ≤ (levelsCommand + restCommand) * i)
+Inv-loop s size places rests bytes₀ i₀ bytes i = (i ≤ size) × (bytes ≡ length (copies i s places rests)) × (bytes ≤ 2 * (levelsCommand + 2) * i)
 
 abbrev μ-loop : tie.MeasureT-loop
 μ-loop s size places rests bytes₀ i₀ bytes i = size - i
@@ -61,7 +61,7 @@ loop-again c =
     let l = c .before .before .before .before .before .loop in
     let a = c .before .before .before .before .before .before .before .args in
     let more = length-next (copyAt (a .s .now) (a .places .now) (a .rests .now)) (l .i) in
-    let both = length-entry (a .s .now) (getD (a .places .now) (l .i) 0) (getD (a .rests .now) (l .i) 0) in
+    let both = length-entry (a .s .now) (l .i) (getD (a .places .now) (l .i) 0) (getD (a .rests .now) (l .i) 0) in
     let t = c .before .before .tone-bytes .ensures in
     let r = c .rest-bytes .ensures in
     rw add-one (omega arith, omega (arith, more, both, l .inv .1, t .0, r .0), omega (arith, t .1, r .1))

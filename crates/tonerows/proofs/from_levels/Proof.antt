@@ -17,16 +17,16 @@ use Rattle.tonerows.proofs.from_levels.Statement.{statement}
 use Rattle.tonerows.proofs.from_levels.Tie as tie
 
 -- the bits of each float as the code has them, and what it makes of them
-noise-read : (c : tie.After-number-at) → let a = c .before .before .args in c .number-at .result ≡ number (a .s .now) (a .at + 2) 4
+noise-read : (c : tie.After-number-at) → let a = c .before .before .args in c .number-at .result ≡ number (a .s .now) (a .at) 4
 noise-read c = c .number-at .ensures .0 ∙ number-there _ _ 4 (omega arith) (omega arith)
 
-gain-read : (c : tie.After-number-at2) → let a = c .before .before .before .before .before .args in c .number-at2 .result ≡ number (a .s .now) (a .at + 6) 4
+gain-read : (c : tie.After-number-at2) → let a = c .before .before .before .before .before .args in c .number-at2 .result ≡ number (a .s .now) (a .at + 4) 4
 gain-read c = c .number-at2 .ensures .0 ∙ number-there _ _ 4 (omega arith) (omega arith)
 
-noise-judged : (c : tie.After-is-usable) → let a = c .before .before .before .args in isUsable (number (a .s .now) (a .at + 2) 4) ≡ c .is-usable .result
+noise-judged : (c : tie.After-is-usable) → let a = c .before .before .before .args in isUsable (number (a .s .now) (a .at) 4) ≡ c .is-usable .result
 noise-judged c = sym (c .is-usable .ensures ∙ ap isUsable (noise-read (c .before)))
 
-gain-judged : (c : tie.After-is-usable2) → let a = c .before .before .before .before .before .before .args in isUsable (number (a .s .now) (a .at + 6) 4) ≡ c .is-usable2 .result
+gain-judged : (c : tie.After-is-usable2) → let a = c .before .before .before .before .before .before .args in isUsable (number (a .s .now) (a .at + 4) 4) ≡ c .is-usable2 .result
 gain-judged c = sym (c .is-usable2 .ensures ∙ ap isUsable (gain-read (c .before)))
 
 returns : tie.Need-returns
@@ -43,10 +43,10 @@ returns-2 c = λ known.
     c .float-out-of-range2 .ensures ∙ sym (level-operands (a .header) known (a .s .now) (a .at) (a .tone) ∙ rw (good, bad))
 
 -- they are usable where they were judged so
-noise-good : (c : tie.Else1) → let a = c .before .before .before .before .args in isUsable (number (a .s .now) (a .at + 2) 4) ≡ true
+noise-good : (c : tie.Else1) → let a = c .before .before .before .before .args in isUsable (number (a .s .now) (a .at) 4) ≡ true
 noise-good c = noise-judged (c .before) ∙ not-false _ (c .if1 .left)
 
-gain-good : (c : tie.Else2) → let a = c .before .before .before .before .before .before .before .args in isUsable (number (a .s .now) (a .at + 6) 4) ≡ true
+gain-good : (c : tie.Else2) → let a = c .before .before .before .before .before .before .before .args in isUsable (number (a .s .now) (a .at + 4) 4) ≡ true
 gain-good c = gain-judged (c .before) ∙ not-false _ (c .if2 .left)
 
 is-over-requires : tie.Need-is-over-requires
@@ -57,7 +57,7 @@ is-over-requires c κs =
 
 -- what is weighed with the gap
 over-as : (c : tie.After-is-over) → let a = c .before .before .before .before .before .before .before .before .before .before .before .args in
-    isOver (parts (a .header .gap)) (levelsOf (a .tone ∷ number (a .s .now) (a .at + 2) 4 ∷ number (a .s .now) (a .at + 6) 4 ∷ [])) ≡ c .is-over .result
+    isOver (parts (a .header .gap)) (levelsOf (a .tone ∷ number (a .s .now) (a .at) 4 ∷ number (a .s .now) (a .at + 4) 4 ∷ [])) ≡ c .is-over .result
 over-as c =
     sym (rw (c .before .parts .ensures, c .before .before .before .float-of .ensures, c .before .before .float-of2 .ensures, noise-read (c .before .before .before .before .before .before .before .before .before), gain-read (c .before .before .before .before .before .before)) at (c .is-over .ensures))
 
@@ -72,18 +72,16 @@ returns-4 : tie.Need-returns-4
 returns-4 c = λ known.
     let a = c .before .before .before .before .before .before .before .before .before .before .before .before .before .args in
     let within = over-as (c .before .before) ∙ c .before .if3 .left in
-    c .from-cap .ensures (a .header) known (number (a .s .now) (a .at + 2) 4 ∷ number (a .s .now) (a .at + 6) 4 ∷ [])
+    c .from-cap .ensures (a .header) known (number (a .s .now) (a .at) 4 ∷ number (a .s .now) (a .at + 4) 4 ∷ [])
     ∙ sym (level-operands (a .header) known (a .s .now) (a .at) (a .tone) ∙ rw (noise-good (c .before .before .before .before .before .before .before .before .before), gain-good (c .before .before .before .before .before .before), within))
 
 pub from-levels-spec : {M : Type 1} → statement M
 from-levels-spec =
     tie.close
     (tie.spec
-    (λ c. search needs)
     (λ c κs. search needs)
     (λ c. search needs)
     (λ c κs. search needs)
-    (λ c. search needs)
     (λ c κs. search needs)
     returns
     (λ c. search needs)
@@ -97,7 +95,6 @@ from-levels-spec =
     (λ c κs. search needs)
     (λ c κs. search needs)
     is-over-requires
-    (λ c. search needs)
     (λ c κs. search needs)
     returns-3
     (λ c. search needs)

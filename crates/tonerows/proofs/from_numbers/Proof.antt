@@ -10,10 +10,10 @@ use Rattle.rows.proofs.Judging.{below, in-range, number-operands}
 use Rattle.tonerows.proofs.from_numbers.Statement.{statement}
 use Rattle.tonerows.proofs.from_numbers.Tie as tie
 
-noise-read : (c : tie.After-number-at) → let a = c .before .before .args in c .number-at .result ≡ number (a .s .now) (a .at + 2) 2
+noise-read : (c : tie.After-number-at) → let a = c .before .before .args in c .number-at .result ≡ number (a .s .now) (a .at) 2
 noise-read c = c .number-at .ensures .0 ∙ number-there _ _ 2 (omega arith) (omega arith)
 
-gain-read : (c : tie.After-number-at2) → let a = c .before .before .before .before .args in c .number-at2 .result ≡ number (a .s .now) (a .at + 4) 2
+gain-read : (c : tie.After-number-at2) → let a = c .before .before .before .before .args in c .number-at2 .result ≡ number (a .s .now) (a .at + 2) 2
 gain-read c = c .number-at2 .ensures .0 ∙ number-there _ _ 2 (omega arith) (omega arith)
 
 returns : tie.Need-returns
@@ -31,12 +31,12 @@ returns-2 c = λ h known.
 returns-3 : tie.Need-returns-3
 returns-3 c = λ h known.
     let a = c .before .before .before .before .before .before .before .args in
-    let noise = number (a .s .now) (a .at + 2) 2 in
-    let gain = number (a .s .now) (a .at + 4) 2 in
+    let noise = number (a .s .now) (a .at) 2 in
+    let gain = number (a .s .now) (a .at + 2) 2 in
     rw (c .before .most-cap .ensures) at (c .from-cap .ensures h known (noise ∷ gain ∷ []))
     ∙ sym (number-operands h known _ _ _ (c .before .before .before .before .before .before .before .args .is-single)
     ∙ in-range _ _ _ _ (noise-read (c .before .before .before .before .before)) (c .before .before .before .before .if1 .left) (omega (arith, c .before .before .before .before .before .number-at .ensures .1))
     ∙ in-range _ _ _ _ (gain-read (c .before .before .before)) (c .before .before .if2 .left) (omega (arith, c .before .before .before .number-at2 .ensures .1)))
 
 pub from-numbers-spec : {M : Type 1} → statement M
-from-numbers-spec = tie.close (tie.spec (λ c. search needs) (λ c κs. search needs) (λ c. search needs) (λ c κs. search needs) returns (λ c. search needs) (λ c κs. search needs) (λ c. search needs) (λ c κs. search needs) returns-2 (λ c κs. search needs) (λ c. search needs) (λ c κs. search needs) returns-3)
+from-numbers-spec = tie.close (tie.spec (λ c κs. search needs) (λ c κs. search needs) returns (λ c. search needs) (λ c κs. search needs) (λ c. search needs) (λ c κs. search needs) returns-2 (λ c κs. search needs) (λ c. search needs) (λ c κs. search needs) returns-3)

@@ -16,11 +16,11 @@ use Rattle.rows.proofs.Judging.{ratio-operands}
 use Rattle.tonerows.proofs.from_ratio.Statement.{statement}
 use Rattle.tonerows.proofs.from_ratio.Tie as tie
 
-bits-read : (c : tie.After-number-at) → let a = c .before .before .args in c .number-at .result ≡ number (a .s .now) (a .at + 2) 4
+bits-read : (c : tie.After-number-at) → let a = c .before .before .args in c .number-at .result ≡ number (a .s .now) (a .at) 4
 bits-read c = c .number-at .ensures .0 ∙ number-there _ _ 4 (omega arith) (omega arith)
 
 -- the bits as the code has them, and what it makes of them
-judged-as : (c : tie.After-is-usable) → let a = c .before .before .before .args in isUsable (number (a .s .now) (a .at + 2) 4) ≡ c .is-usable .result
+judged-as : (c : tie.After-is-usable) → let a = c .before .before .before .args in isUsable (number (a .s .now) (a .at) 4) ≡ c .is-usable .result
 judged-as c = sym (c .is-usable .ensures ∙ ap isUsable (bits-read (c .before)))
 
 returns : tie.Need-returns
@@ -30,14 +30,14 @@ returns c = λ known.
     c .float-out-of-range .ensures ∙ sym (ratio-operands (a .header) known (a .s .now) (a .at) (a .tone) ∙ rw bad)
 
 -- it is usable where it was judged so
-good : (c : tie.Else1) → let a = c .before .before .before .before .args in isUsable (number (a .s .now) (a .at + 2) 4) ≡ true
+good : (c : tie.Else1) → let a = c .before .before .before .before .args in isUsable (number (a .s .now) (a .at) 4) ≡ true
 good c = judged-as (c .before) ∙ not-false _ (c .if1 .left)
 
 is-over-requires : tie.Need-is-over-requires
 is-over-requires c κs = rw (c .before .float-of .ensures) (usable-float _ (sym (c .before .before .before .is-usable .ensures) ∙ not-false _ (c .before .before .if1 .left)))
 
 -- what is weighed with the gap
-over-as : (c : tie.After-is-over) → let a = c .before .before .before .before .before .before .before .args in isOver (parts (a .header .gap)) (ratioOf (a .tone ∷ number (a .s .now) (a .at + 2) 4 ∷ [])) ≡ c .is-over .result
+over-as : (c : tie.After-is-over) → let a = c .before .before .before .before .before .before .before .args in isOver (parts (a .header .gap)) (ratioOf (a .tone ∷ number (a .s .now) (a .at) 4 ∷ [])) ≡ c .is-over .result
 over-as c = sym (rw (c .before .parts .ensures, c .before .before .float-of .ensures, bits-read (c .before .before .before .before .before)) at (c .is-over .ensures))
 
 returns-2 : tie.Need-returns-2
@@ -50,24 +50,21 @@ returns-3 : tie.Need-returns-3
 returns-3 c = λ known.
     let a = c .before .before .before .before .before .before .before .before .before .args in
     let within = over-as (c .before .before) ∙ c .before .if2 .left in
-    c .from-cap .ensures (a .header) known (number (a .s .now) (a .at + 2) 4 ∷ [])
+    c .from-cap .ensures (a .header) known (number (a .s .now) (a .at) 4 ∷ [])
     ∙ sym (ratio-operands (a .header) known (a .s .now) (a .at) (a .tone) ∙ rw (good (c .before .before .before .before .before), within))
 
 pub from-ratio-spec : {M : Type 1} → statement M
 from-ratio-spec =
     tie.close
     (tie.spec
-    (λ c. search needs)
     (λ c κs. search needs)
     (λ c. search needs)
     (λ c κs. search needs)
-    (λ c. search needs)
     (λ c κs. search needs)
     returns
     (λ c κs. search needs)
     (λ c κs. search needs)
     is-over-requires
-    (λ c. search needs)
     (λ c κs. search needs)
     returns-2
     (λ c. search needs)

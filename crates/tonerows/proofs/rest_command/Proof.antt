@@ -1,7 +1,7 @@
 -- `tonerows::rest_command` meets its contract. Assumes nothing.
 use mathlib.Core.Bool.{Bool}
 use mathlib.Core.Path.{_≡_, sym, _∙_}
-use Prim.Native.Nat.{_+_}
+use Prim.Native.Nat.{ℕ, _+_, _≤_, _<_}
 use native.Mathlib.Omega.{arith}
 use borrow.Author.Needs.{needs}
 use borrow.Author.Tests.{le-leb, lt-leb, not-true, not-false}
@@ -9,6 +9,7 @@ use Rattle.bigendian.specs.Number.{number}
 use Rattle.bigendian.proofs.Numbers.{number-there}
 use Rattle.gaps.specs.Gap.{parts}
 use Rattle.line.specs.Tone.{InRange}
+use Rattle.addresses.specs.Addresses.{numberWidth}
 use Rattle.places.specs.Places.{toneAt, entryAt}
 use Rattle.places.proofs.Entries.{entry-there}
 use Rattle.rows.specs.Rows.{isRestOf}
@@ -16,23 +17,34 @@ use Rattle.rows.proofs.Judging.{rest-operands, no-tone-yet, has-rest, no-rest-y
 use Rattle.tonerows.proofs.rest_command.Statement.{statement}
 use Rattle.tonerows.proofs.rest_command.Tie as tie
 
-cast-tone : tie.Need-cast-tone
-cast-tone c = omega (arith, c .shared-slice-known2 .given (c .before .before .args .at + 1))
+-- the tone's number, and the rest
+abbrev tone : tie.Start → ℕ
+tone c = number (c .args .s .now) (c .args .at + 1) (numberWidth (c .args .code))
+
+abbrev value : tie.Start → ℕ
+value c = number (c .args .s .now) (c .args .at + 1 + numberWidth (c .args .code)) 4
+
+-- the tests of the tone's number, as the code has it
+beyond : (c : tie.Then1) → c .before .before .before .before .args .header .size ≤ tone (c .before .before .before .before)
+beyond c = rw (c .before .before .tone-number .ensures) at (c .if1 .taken)
+
+of-line : (c : tie.Else1) → tone (c .before .before .before .before) < c .before .before .before .before .args .header .size
+of-line c = rw (c .before .before .tone-number .ensures) at (c .if1 .left)
 
 returns : tie.Need-returns
-returns c = sym (rest-operands _ _ _ _ ∙ rw (le-leb _ _ (c .if1 .taken)))
+returns c = sym (rest-operands _ _ _ _ (numberWidth (c .before .before .before .before .args .code)) ∙ rw (le-leb _ _ (beyond c)))
 
 returns-2 : tie.Need-returns-2
 returns-2 c =
     let a = c .before .before .before .before .before .before .args in
     c .cannot-take .ensures
-    ∙ sym (rest-operands _ _ _ _ ∙ rw (lt-leb _ _ (c .before .before .if1 .left), no-tone-yet (a .s .now) (a .place) (a .rested) (omega arith)))
+    ∙ sym (rest-operands _ _ _ _ (numberWidth (a .code)) ∙ rw (lt-leb _ _ (of-line (c .before .before)), no-tone-yet (a .s .now) (a .place) (a .rested) (omega arith)))
 
 returns-3 : tie.Need-returns-3
 returns-3 c =
     let a = c .before .before .before .before .before .before .before .args in
     c .cannot-take2 .ensures
-    ∙ sym (rest-operands _ _ _ _ ∙ rw (lt-leb _ _ (c .before .before .before .if1 .left), has-rest (a .s .now) (a .place) (a .rested) (omega arith) (omega arith)))
+    ∙ sym (rest-operands _ _ _ _ (numberWidth (a .code)) ∙ rw (lt-leb _ _ (of-line (c .before .before .before)), has-rest (a .s .now) (a .place) (a .rested) (omega arith) (omega arith)))
 
 -- the tone that stands at its place is in range
 tone-in-range : (c : tie.Else3) → let a = c .before .before .before .before .before .before .args in InRange (parts (a .header .gap)) (toneAt (a .s .now) (a .place))
@@ -41,50 +53,54 @@ tone-in-range c =
     (rw (entry-there (a .s .now) (a .rested) (a .place) (omega arith)) at (c .before .before .before .before .before .before .pre .1 .1)) .0
 
 takes-rest-requires : tie.Need-takes-rest-requires
-takes-rest-requires c κs = rw (c .parts .ensures) (tone-in-range (c .before .before))
+takes-rest-requires c κs = rw (c .parts .ensures) (tone-in-range (c .before .before .before))
+
+-- the rest as the code has it
+rest-read : (c : tie.After-number-at) → c .number-at .result ≡ value (c .before .before .before .before .before .before .before .before)
+rest-read c = rw (c .before .number-width .ensures .0) at (c .number-at .ensures .0) ∙ number-there _ _ 4 (omega arith) (omega (arith, c .before .before .before .before .before .before .before .before .pre .0))
 
 -- what the operands come to is what the test of the rest decides
-judged : (c : tie.After-takes-rest) (b : Bool) → c .takes-rest .result ≡ b → let a = c .before .before .before .before .before .before .before .before .before .args in isRestOf (parts (a .header .gap)) (entryAt (a .s .now) (a .place) (a .rested)) (number (a .s .now) (a .at + 2) 4) ≡ b
+judged : (c : tie.After-takes-rest) (b : Bool) → c .takes-rest .result ≡ b → let a = c .before .before .before .before .before .before .before .before .before .before .args in isRestOf (parts (a .header .gap)) (entryAt (a .s .now) (a .place) (a .rested)) (value (c .before .before .before .before .before .before .before .before .before .before)) ≡ b
 judged c b e =
-    let a = c .before .before .before .before .before .before .before .before .before .args in
-    let read : c .before .before .number-at .result ≡ number (a .s .now) (a .at + 2) 4 = c .before .before .number-at .ensures .0 ∙ number-there _ _ 4 (omega arith) (omega arith) in
-    rest-judged (a .s .now) (a .place) (a .rested) (parts (a .header .gap)) (number (a .s .now) (a .at + 2) 4) (omega arith)
-    ∙ sym (rw (c .before .parts .ensures, read) at (c .takes-rest .ensures))
+    let a = c .before .before .before .before .before .before .before .before .before .before .args in
+    rest-judged (a .s .now) (a .place) (a .rested) (parts (a .header .gap)) (value (c .before .before .before .before .before .before .before .before .before .before)) (omega arith)
+    ∙ sym (rw (c .before .parts .ensures, rest-read (c .before .before)) at (c .takes-rest .ensures))
     ∙ e
 
 returns-4 : tie.Need-returns-4
 returns-4 c =
-    let a = c .before .before .before .before .before .before .before .before .before .before .args in
-    sym
-    (rest-operands _ _ _ _
-    ∙ rw (lt-leb _ _ (c .before .before .before .before .before .before .if1 .left), no-rest-yet (a .s .now) (a .place) (a .rested) (omega arith) (omega arith), judged (c .before) _ (not-true _ (c .if4 .taken))))
+    let a = c .before .before .before .before .before .before .before .before .before .before .before .args in
+    rw (c .before .before .before .before .number-width .ensures .0)
+    (sym
+    (rest-operands _ _ _ _ (numberWidth (a .code))
+    ∙ rw (lt-leb _ _ (of-line (c .before .before .before .before .before .before .before)), no-rest-yet (a .s .now) (a .place) (a .rested) (omega arith) (omega arith), judged (c .before) _ (not-true _ (c .if4 .taken)))))
 
 returns-5 : tie.Need-returns-5
 returns-5 c =
-    let a = c .before .before .before .before .before .before .before .before .before .before .args in
-    sym
-    (rest-operands _ _ _ _
-    ∙ rw (lt-leb _ _ (c .before .before .before .before .before .before .if1 .left), no-rest-yet (a .s .now) (a .place) (a .rested) (omega arith) (omega arith), judged (c .before) _ (not-false _ (c .if4 .left))))
+    let a = c .before .before .before .before .before .before .before .before .before .before .before .args in
+    rw (c .before .before .before .before .before .before .before .before .before .tone-number .ensures)
+    (sym
+    (rest-operands _ _ _ _ (numberWidth (a .code))
+    ∙ rw (lt-leb _ _ (of-line (c .before .before .before .before .before .before .before)), no-rest-yet (a .s .now) (a .place) (a .rested) (omega arith) (omega arith), judged (c .before) _ (not-false _ (c .if4 .left)))))
 
 pub rest-command-spec : {M : Type 1} → statement M
 rest-command-spec =
     tie.close
     (tie.spec
     (λ c. search needs)
-    (λ c. search needs)
-    cast-tone
+    (λ c κs. search needs)
     (λ c. search needs)
     returns
     (λ c κs. search needs)
     returns-2
     (λ c κs. search needs)
     returns-3
+    (λ c κs. search needs)
     (λ c. search needs)
     (λ c κs. search needs)
     (λ c. search needs)
     (λ c κs. search needs)
     takes-rest-requires
-    (λ c. search needs)
     (λ c. search needs)
     returns-4
     returns-5)

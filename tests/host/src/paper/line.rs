@@ -4,12 +4,66 @@ use super::gap::{Gap, MOST_TENTHS};
 use super::reading::{is_accepted, Reading};
 use super::{refuse, Refusal};
 
-pub const TONES: usize = 256;
-pub const LARGEST_SHEET: usize = 4096;
+pub const TONES: usize = 1024;
+/// Of 32 tones each.
+pub const WORDS: usize = TONES / 32;
+pub const LARGEST_SHEET: usize = 32_768;
 /// Masks and budgets end here.
 pub const LARGEST_POWER: u64 = 1 << 47;
-/// The bytes of a 0B.
-pub const REST_BYTES: usize = 6;
+/// A twin's byte is so much higher than its short command's.
+pub const TWIN: u8 = 0x10;
+
+/// A command of a sheet.
+#[derive(Clone, Copy, Debug, PartialEq, Eq)]
+pub struct Command {
+    /// Its byte or, of a twin, that of its short command.
+    pub short: u8,
+    pub is_twin: bool,
+}
+
+impl Command {
+    /// The bytes of each command that is no twin, by its byte.
+    const WIDTHS: [usize; 12] = [0, 3, 3, 9, 15, 15, 6, 1, 2, 19, 15, 6];
+
+    /// What a byte stands for: "Each command with a tone byte gets a twin".
+    pub fn of(byte: u8) -> Option<Command> {
+        let is_twin = byte >= TWIN;
+        let command = Command { short: byte % TWIN, is_twin };
+        let is_known = match is_twin {
+            true => byte < 2 * TWIN && command.has_tone(),
+            false => (1..12).contains(&byte),
+        };
+        is_known.then_some(command)
+    }
+
+    /// The shortest for a tone: "Tidying uses the short command for tones up to 255."
+    pub fn shortest(short: u8, tone: usize) -> Command {
+        Command { short, is_twin: tone > 255 }
+    }
+
+    pub fn byte(self) -> u8 {
+        self.short + if self.is_twin { TWIN } else { 0 }
+    }
+
+    pub fn describes_a_tone(self) -> bool {
+        matches!(self.short, 4 | 5 | 9 | 10)
+    }
+
+    /// Whether its first operand is a tone.
+    pub fn has_tone(self) -> bool {
+        self.describes_a_tone() || self.short == 11
+    }
+
+    /// The bytes of its tone.
+    pub fn tone_bytes(self) -> usize {
+        1 + usize::from(self.is_twin)
+    }
+
+    /// Its bytes in all: a twin has "its other operands alike".
+    pub fn length(self) -> usize {
+        Command::WIDTHS[usize::from(self.short)] + usize::from(self.is_twin)
+    }
+}
 
 #[derive(Clone, Copy, Debug, PartialEq, Eq)]
 pub enum Kind {
@@ -37,15 +91,16 @@ pub struct Tone {
 }
 
 /// What a sheet says.
-#[derive(Clone, Copy, Debug, PartialEq, Eq)]
+#[derive(Clone, Debug, PartialEq, Eq)]
 pub struct Line {
     pub tones: usize,
     pub gap: Gap,
     pub budget: u64,
-    pub described: [Option<Tone>; TONES],
-    /// By 0B, and 0 where none was given: both are the same line.
-    pub rests: [u32; TONES],
-    pub silenced: [u32; 8],
+    /// Of each tone.
+    pub described: Vec<Option<Tone>>,
+    /// Of each tone, by 0B, and 0 where none was given: both are the same line.
+    pub rests: Vec<u32>,
+    pub silenced: [u32; WORDS],
 }
 
 // ---- Cost, power and limit of a tone ----
@@ -64,11 +119,14 @@ impl Tone {
         }
     }
 
-    /// How many bytes its command has.
-    pub fn length(&self) -> usize {
+    /// The byte of its command, or of its command's short one: which of the two it was is no
+    /// part of the line.
+    pub fn short(&self) -> u8 {
         match self.given {
-            Given::Whole { .. } => 15,
-            Given::Read(reading) => reading.length(),
+            Given::Whole { .. } if self.kind == Kind::Pair => 4,
+            Given::Whole { .. } => 5,
+            Given::Read(Reading::NoiseAndGain(..)) => 9,
+            Given::Read(Reading::Ratio(_)) => 10,
         }
     }
 
@@ -142,28 +200,25 @@ fn operand(sheet: &[u8], at: usize, width: usize, low: u64, high: u64) -> Result
     Ok(operand)
 }
 
-/// How many bytes each command has, by its byte.
-const WIDTHS: [usize; 12] = [0, 3, 3, 9, 15, 15, 6, 1, 2, 19, 15, REST_BYTES];
-
-/// The command at a place, if it is allowed and its operands are there.
-fn command(sheet: &[u8], at: usize, allowed: impl Fn(u8) -> bool) -> Result<u8, Refusal> {
+/// The command at a place, if it is allowed, as its twin is with it, and its operands are
+/// there.
+fn command(sheet: &[u8], at: usize, allowed: impl Fn(u8) -> bool) -> Result<Command, Refusal> {
     if at >= sheet.len() {
         return refuse(2, sheet.len());
     }
-    let command = sheet[at];
-    if !allowed(command) {
-        return refuse(3, at);
+    match Command::of(sheet[at]) {
+        Some(command) if allowed(command.short) => match sheet.len() - at < command.length() {
+            true => refuse(2, sheet.len()),
+            false => Ok(command),
+        },
+        _ => refuse(3, at),
     }
-    if sheet.len() - at < WIDTHS[usize::from(command)] {
-        return refuse(2, sheet.len());
-    }
-    Ok(command)
 }
 
 /// Command 02, or 08 in its place.
 fn read_gap(sheet: &[u8], at: usize) -> Result<Gap, Refusal> {
     let most_tenths = MOST_TENTHS.into();
-    match command(sheet, at, |byte| byte == 2 || byte == 8)? {
+    match command(sheet, at, |byte| byte == 2 || byte == 8)?.short {
         2 => Ok(Gap::Whole(operand(sheet, at + 1, 2, 256, 65_535)? as u16)),
         _ => Ok(Gap::Tenths(operand(sheet, at + 1, 1, 0, most_tenths)? as u8)),
     }
@@ -179,8 +234,8 @@ fn float(sheet: &[u8], at: usize) -> Result<u32, Refusal> {
 }
 
 /// What 09 or 0A says from its first float on, with refusal 13 straight after the last.
-fn read_reading(gap: Gap, sheet: &[u8], at: usize, command: u8) -> Result<Reading, Refusal> {
-    let reading = match command {
+fn read_reading(gap: Gap, sheet: &[u8], at: usize, short: u8) -> Result<Reading, Refusal> {
+    let reading = match short {
         9 => Reading::NoiseAndGain(float(sheet, at)?, float(sheet, at + 4)?),
         _ => Reading::Ratio(float(sheet, at)?),
     };
@@ -190,33 +245,43 @@ fn read_reading(gap: Gap, sheet: &[u8], at: usize, command: u8) -> Result<Readin
     }
 }
 
-/// Command 04, 05, 09 or 0A: cap and mask are its last nine bytes.
-fn read_tone(line: &mut Line, sheet: &[u8], at: usize, command: u8) -> Result<(), Refusal> {
-    let number = usize::from(sheet[at + 1]);
-    if number >= line.tones {
+/// The tone of a command, if it is on the line, and the place of the operand after it.
+fn read_number(
+    line: &Line,
+    sheet: &[u8],
+    at: usize,
+    command: Command,
+) -> Result<(usize, usize), Refusal> {
+    let tone = number(sheet, at + 1, command.tone_bytes()) as usize;
+    if tone >= line.tones {
         return refuse(5, at + 1);
     }
+    Ok((tone, at + 1 + command.tone_bytes()))
+}
+
+/// Command 04, 05, 09 or 0A, or a twin: cap and mask are its last nine bytes.
+fn read_tone(line: &mut Line, sheet: &[u8], at: usize, command: Command) -> Result<(), Refusal> {
+    let (number, next) = read_number(line, sheet, at, command)?;
     if line.described[number].is_some() {
         return refuse(6, at + 1);
     }
-    let given = match command {
+    let given = match command.short {
         4 | 5 => Given::Whole {
-            noise: operand(sheet, at + 2, 2, 1, 65_535)? as u16,
-            gain: operand(sheet, at + 4, 2, 1, 65_535)? as u16,
+            noise: operand(sheet, next, 2, 1, 65_535)? as u16,
+            gain: operand(sheet, next + 2, 2, 1, 65_535)? as u16,
         },
-        _ => Given::Read(read_reading(line.gap, sheet, at + 2, command)?),
+        short => Given::Read(read_reading(line.gap, sheet, next, short)?),
     };
-    let (kind, most) = if command == 5 { (Kind::Single, 7) } else { (Kind::Pair, 15) };
-    let mut tone = Tone { kind, given, cap: 0, mask: 0 };
-    let end = at + tone.length();
-    tone.cap = operand(sheet, end - 9, 1, 0, most)? as u8;
-    tone.mask = operand(sheet, end - 8, 8, 0, LARGEST_POWER)?;
-    line.described[number] = Some(tone);
+    let (kind, most) = if command.short == 5 { (Kind::Single, 7) } else { (Kind::Pair, 15) };
+    let end = at + command.length();
+    let cap = operand(sheet, end - 9, 1, 0, most)? as u8;
+    let mask = operand(sheet, end - 8, 8, 0, LARGEST_POWER)?;
+    line.described[number] = Some(Tone { kind, given, cap, mask });
     Ok(())
 }
 
 fn read_silence(line: &mut Line, sheet: &[u8], at: usize) -> Result<(), Refusal> {
-    let word = operand(sheet, at + 1, 1, 0, 7)? as usize;
+    let word = operand(sheet, at + 1, 1, 0, WORDS as u64 - 1)? as usize;
     let map = number(sheet, at + 2, 4);
     let on_line = line.tones.saturating_sub(32 * word).min(32);
     if map >> on_line != 0 {
@@ -226,22 +291,20 @@ fn read_silence(line: &mut Line, sheet: &[u8], at: usize) -> Result<(), Refusal>
     Ok(())
 }
 
-/// Command 0B. Which tones have had one, even of rest 0, is no part of the line.
+/// Command 0B or its twin. Which tones have had one, even of rest 0, is no part of the line.
 fn read_rest(
     line: &mut Line,
-    rested: &mut [bool; TONES],
+    rested: &mut [bool],
     sheet: &[u8],
     at: usize,
+    command: Command,
 ) -> Result<(), Refusal> {
-    let place = usize::from(sheet[at + 1]);
-    if place >= line.tones {
-        return refuse(5, at + 1);
-    }
-    let rest = number(sheet, at + 2, 4) as u32;
+    let (place, next) = read_number(line, sheet, at, command)?;
+    let rest = number(sheet, next, 4) as u32;
     match &line.described[place] {
         Some(tone) if !rested[place] => {
             if !tone.takes_rest(line.gap.value(), rest) {
-                return refuse(15, at + 2);
+                return refuse(15, next);
             }
             line.rests[place] = rest;
             rested[place] = true;
@@ -262,20 +325,20 @@ pub fn read_bytes(sheet: &[u8]) -> Result<Line, Refusal> {
     let mut at = 3 + gap.length();
     command(sheet, at, |byte| byte == 3)?;
     let budget = operand(sheet, at + 1, 8, 0, LARGEST_POWER)?;
-    let (described, rests, silenced) = ([None; TONES], [0; TONES], [0; 8]);
-    let mut line = Line { tones, gap, budget, described, rests, silenced };
-    let mut rested = [false; TONES];
+    let (described, rests) = (vec![None; tones], vec![0; tones]);
+    let mut line = Line { tones, gap, budget, described, rests, silenced: [0; WORDS] };
+    let mut rested = vec![false; tones];
     at += 9;
     loop {
         let command = command(sheet, at, |byte| matches!(byte, 4..=7 | 9..=11))?;
-        match command {
+        match command.short {
             6 => read_silence(&mut line, sheet, at)?,
-            11 => read_rest(&mut line, &mut rested, sheet, at)?,
+            11 => read_rest(&mut line, &mut rested, sheet, at, command)?,
             7 if at + 1 < sheet.len() => return refuse(7, at + 1),
             7 => return Ok(line),
             _ => read_tone(&mut line, sheet, at, command)?,
         }
-        at += WIDTHS[usize::from(command)];
+        at += command.length();
     }
 }
 

@@ -50,14 +50,6 @@ fn cost(gap: u64, ratio: f32) -> Option<u64> {
 }
 
 impl Reading {
-    /// How many bytes its command has.
-    pub fn length(self) -> usize {
-        match self {
-            Reading::NoiseAndGain(..) => 19,
-            Reading::Ratio(_) => 15,
-        }
-    }
-
     /// "For 09 the ratio is the one float quotient, rounded once, to nearest."
     fn ratio(self) -> f32 {
         match self {

@@ -1,6 +1,6 @@
 //! A table while it is loaded or re-fitted.
 
-use super::line::{limit, power, Kind, Line, TONES};
+use super::line::{limit, power, Kind, Line};
 use super::{refuse, Refusal, BYTES_A_TONE};
 
 /// A step: its size, then its tone; compared in that order.
@@ -10,18 +10,39 @@ pub type Step = (u64, usize);
 const NO_FREE: u64 = u64::MAX;
 const NO_HELD: u64 = 0;
 
+/// What a tone's powers depend on.
+#[derive(Clone, Copy)]
+pub struct Powers {
+    kind: Kind,
+    pub cost: u64,
+    /// What it sends with no bits.
+    rest: u64,
+}
+
+impl Powers {
+    /// The power at some number of bits: at none, the rest.
+    fn at(self, bits: u8) -> u64 {
+        match bits {
+            0 => self.rest,
+            _ => power(self.kind, self.cost, bits),
+        }
+    }
+
+    /// The size of the step at some number of bits.
+    fn step_at(self, bits: u8) -> u64 {
+        self.at(bits + 1) - self.at(bits)
+    }
+}
+
 /// A table while it is loaded, with each tone's next free and last held step.
 pub struct Running {
     pub tones: usize,
     pub budget: u64,
-    pub kind: [Kind; TONES],
-    pub cost: [u64; TONES],
-    /// What each tone sends with no bits.
-    rest: [u64; TONES],
-    pub limit: [u8; TONES],
-    pub bits: [u8; TONES],
-    free: [u64; TONES],
-    held: [u64; TONES],
+    pub powers: Vec<Powers>,
+    pub limit: Vec<u8>,
+    pub bits: Vec<u8>,
+    free: Vec<u64>,
+    held: Vec<u64>,
     pub total_bits: u64,
     pub total_power: u64,
 }
@@ -32,24 +53,21 @@ impl Running {
         let mut run = Running {
             tones: line.tones,
             budget: line.budget,
-            kind: [Kind::Pair; TONES],
-            cost: [0; TONES],
-            rest: [0; TONES],
-            limit: [0; TONES],
-            bits: [0; TONES],
-            free: [NO_FREE; TONES],
-            held: [NO_HELD; TONES],
+            powers: vec![Powers { kind: Kind::Pair, cost: 0, rest: 0 }; line.tones],
+            limit: vec![0; line.tones],
+            bits: vec![0; line.tones],
+            free: vec![NO_FREE; line.tones],
+            held: vec![NO_HELD; line.tones],
             total_bits: 0,
             total_power: line.sum_of_rests(),
         };
         let gap = line.gap.value();
-        for (number, tone) in line.described[..line.tones].iter().enumerate() {
+        for (number, tone) in line.described.iter().enumerate() {
             let Some(tone) = tone else { continue };
-            run.kind[number] = tone.kind;
-            run.cost[number] = tone.cost(gap);
-            run.rest[number] = line.rest(number);
+            let cost = tone.cost(gap);
+            run.powers[number] = Powers { kind: tone.kind, cost, rest: line.rest(number) };
             if !line.is_silenced(number) {
-                run.limit[number] = limit(tone, run.cost[number]);
+                run.limit[number] = limit(tone, cost);
             }
             run.set(number, 0);
         }
@@ -71,37 +89,29 @@ impl Running {
         Ok(run)
     }
 
-    /// A tone's power at some number of bits: at none, its rest.
     pub fn power_at(&self, tone: usize, bits: u8) -> u64 {
-        match bits {
-            0 => self.rest[tone],
-            _ => power(self.kind[tone], self.cost[tone], bits),
-        }
+        self.powers[tone].at(bits)
     }
 
     pub fn power(&self, tone: usize) -> u64 {
         self.power_at(tone, self.bits[tone])
     }
 
-    /// The size of a tone's step at some number of bits.
-    fn step_at(&self, tone: usize, bits: u8) -> u64 {
-        self.power_at(tone, bits + 1) - self.power_at(tone, bits)
-    }
-
     /// Gives a tone its bits, and keeps the totals and its two steps.
     fn set(&mut self, tone: usize, bits: u8) {
-        self.total_bits -= u64::from(self.bits[tone]);
-        self.total_power -= self.power(tone);
+        let (powers, was) = (self.powers[tone], self.bits[tone]);
+        self.total_bits = self.total_bits - u64::from(was) + u64::from(bits);
+        self.total_power = self.total_power - powers.at(was) + powers.at(bits);
         self.bits[tone] = bits;
-        self.total_bits += u64::from(bits);
-        self.total_power += self.power(tone);
-        self.free[tone] = if bits < self.limit[tone] { self.step_at(tone, bits) } else { NO_FREE };
-        self.held[tone] = if bits > 0 { self.step_at(tone, bits - 1) } else { NO_HELD };
+        self.free[tone] = if bits < self.limit[tone] { powers.step_at(bits) } else { NO_FREE };
+        self.held[tone] = if bits > 0 { powers.step_at(bits - 1) } else { NO_HELD };
     }
 
+    /// Like the other search it is compiled once, so that all runs take as long for a move.
+    #[inline(never)]
     pub fn earliest_free(&self) -> Option<Step> {
         let mut earliest = (NO_FREE, 0);
-        for (tone, &size) in self.free[..self.tones].iter().enumerate() {
+        for (tone, &size) in self.free.iter().enumerate() {
             if size < earliest.0 {
                 earliest = (size, tone);
             }
@@ -109,9 +119,10 @@ impl Running {
         (earliest.0 != NO_FREE).then_some(earliest)
     }
 
+    #[inline(never)]
     pub fn latest_held(&self) -> Option<Step> {
         let mut latest = (NO_HELD, 0);
-        for (tone, &size) in self.held[..self.tones].iter().enumerate() {
+        for (tone, &size) in self.held.iter().enumerate() {
             if size >= latest.0 {
                 latest = (size, tone);
             }

@@ -8,7 +8,7 @@ use crate::random::Random;
 use std::collections::BTreeSet;
 
 /// The sheet of document 01 at a budget.
-fn sample(budget: u64) -> Vec<u8> {
+pub fn sample(budget: u64) -> Vec<u8> {
     let mut sheet = vec![1, 0, 3, 2, 1, 0, 3];
     sheet.extend(budget.to_be_bytes());
     sheet.extend([4, 0, 0, 3, 0, 1, 15, 0, 0, 0, 0, 0, 0, 0, 100]);
@@ -26,7 +26,7 @@ fn with_gap(budget: u64, gap: &[u8]) -> Vec<u8> {
 /// A call's returned number, the table's bits, its powers, and the three answers.
 type Outcome = (u64, [u8; 3], [u64; 3], [u64; 3]);
 
-fn value(bytes: &[u8]) -> u64 {
+pub fn value(bytes: &[u8]) -> u64 {
     u64::from_be_bytes(bytes[..8].try_into().unwrap())
 }
 
@@ -178,7 +178,7 @@ fn costs_and_limits() {
     }
 }
 
-fn refusal(sheet: &[u8]) -> (u32, usize) {
+pub fn refusal(sheet: &[u8]) -> (u32, usize) {
     read(sheet).map_or_else(|refusal| (refusal.number, refusal.place), |_| (0, 0))
 }
 
@@ -228,7 +228,7 @@ fn tenths_refused() {
 }
 
 /// 09 or 0A of a tone, with its floats, cap and mask.
-fn reading(number: u8, floats: &[u32], cap: u8, mask: u64) -> Vec<u8> {
+pub fn reading(number: u8, floats: &[u32], cap: u8, mask: u64) -> Vec<u8> {
     let mut bytes = vec![if floats.len() == 2 { 9 } else { 10 }, number];
     floats.iter().for_each(|float| bytes.extend(float.to_be_bytes()));
     bytes.push(cap);
@@ -236,7 +236,7 @@ fn reading(number: u8, floats: &[u32], cap: u8, mask: u64) -> Vec<u8> {
     bytes
 }
 
-fn bits(floats: &[f32]) -> Vec<u32> {
+pub fn bits(floats: &[f32]) -> Vec<u32> {
     floats.iter().map(|float| float.to_bits()).collect()
 }
 
@@ -395,31 +395,13 @@ fn places_of_readings() {
     assert_eq!(refusal(&[&sheet[..15], &[12]].concat()), (3, 15));
 }
 
-/// 214 tones of 09 fit, and 256 of 0A.
-#[test]
-fn full_lines_of_readings() {
-    for (floats, tones, bits_due) in [(&[3.0, 2.0][..], 214, 235), (&[1.5], 256, 256)] {
-        let mut sheet = vec![1, 1, 0, 2, 1, 0, 3, 0, 0, 0, 0, 0, 0, 2, 0];
-        for number in 0..tones {
-            sheet.extend(reading(number as u8, &bits(floats), 15, 100));
-        }
-        sheet.push(7);
-        let line = read(&sheet).unwrap();
-        assert_eq!((line.count_described(), tidy_length(&line)), (tones, sheet.len()));
-        let mut run = Running::nothing(&line);
-        while run.add() {}
-        // Each costs 2. All get a bit, and at 4 more some a second, up to 512.
-        assert_eq!((run.total_bits, run.total_power), (bits_due, 512));
-    }
-}
-
 /// 0B of a tone.
-fn rest(number: u8, rest: u32) -> Vec<u8> {
+pub fn rest(number: u8, rest: u32) -> Vec<u8> {
     [&[11, number][..], &rest.to_be_bytes()].concat()
 }
 
 /// The sample with other commands before its end.
-fn and(budget: u64, commands: &[Vec<u8>]) -> Vec<u8> {
+pub fn and(budget: u64, commands: &[Vec<u8>]) -> Vec<u8> {
     [&sample(budget)[..60], &commands.concat(), &[7]].concat()
 }
 
@@ -647,32 +629,13 @@ fn rests_over_the_budget() {
     assert_eq!(printed(&rested(3)), due);
 }
 
-/// With a rest each, 194 tones of 15 bytes fit, and 163 of 09.
-#[test]
-fn full_lines_of_rests() {
-    for (floats, tones) in [(&[3.0, 2.0][..], 163), (&[1.5], 194)] {
-        let mut sheet = vec![1, 1, 0, 2, 1, 0, 3, 0, 0, 0, 0, 0, 0, 1, 0];
-        for number in 0..tones {
-            sheet.extend(reading(number as u8, &bits(floats), 15, 100));
-            sheet.extend(rest(number as u8, 1));
-        }
-        sheet.push(7);
-        assert!(sheet.len() <= LARGEST_SHEET && sheet.len() + 21 > LARGEST_SHEET);
-        let line = read(&sheet).unwrap();
-        assert_eq!((line.count_described(), tidy_length(&line)), (tones, sheet.len()));
-        let mut run = Running::nothing(&line);
-        while run.add() {}
-        // Each costs 2, so the first steps are 1, up to 256.
-        assert_eq!((run.total_bits, run.total_power), (256 - tones, 256));
-    }
-}
-
 #[test]
 fn bench_program_output() {
     let due = "0 3 21 mask\n1 2 15 cap\n2 1 3 mask\ntotal 6 39\n";
     assert_eq!(printed(&sample(39)), due);
     assert_eq!(printed(&[]), "refused 2 0\n");
-    assert_eq!(printed(&[1; 4097]), "refused 1 0\n");
+    assert_eq!(printed(&[1; LARGEST_SHEET]), "refused 3 3\n");
+    assert_eq!(printed(&[1; LARGEST_SHEET + 1]), "refused 1 0\n");
 }
 
 /// A tone's power at some number of bits, from what the sheet says of it.
@@ -712,7 +675,7 @@ fn steps(line: &Line, from: &[u8], to: &[u8]) -> BTreeSet<Step> {
 }
 
 fn held(line: &Line, run: &Running) -> BTreeSet<Step> {
-    steps(line, &[0; line::TONES], &run.bits)
+    steps(line, &vec![0; line.tones], &run.bits)
 }
 
 fn free(line: &Line, run: &Running) -> BTreeSet<Step> {
@@ -732,7 +695,8 @@ fn check_searches(line: &Line, run: &Running) {
 fn check_limits(line: &Line, run: &Running) {
     for number in 0..line.tones {
         let passes = |tone: &Tone, bits: u8| {
-            !line.is_silenced(number) && line::power(tone.kind, run.cost[number], bits) <= tone.mask
+            !line.is_silenced(number)
+                && line::power(tone.kind, run.powers[number].cost, bits) <= tone.mask
         };
         let largest = line.described[number]
             .and_then(|tone| (0..=tone.cap).filter(|&bits| passes(&tone, bits)).max());
@@ -782,7 +746,7 @@ fn best_of_all_tables() {
         let line = read(&sheet).unwrap();
         let mut run = Running::nothing(&line);
         check_limits(&line, &run);
-        let limits = run.limit;
+        let limits = run.limit.clone();
         let least = least_powers(&line, &run);
         check_searches(&line, &run);
         with_rests += u32::from(least[0] > 0);
@@ -812,4 +776,38 @@ fn best_of_all_tables() {
         }
     }
     assert!(with_rests > 400, "{with_rests} lines with rests");
+}
+
+/// On large lines the searches find what is earliest and latest of all steps, and a re-fit
+/// ends where a loading does, in as many moves as its rule makes.
+#[test]
+fn large_lines_by_all_steps() {
+    let mut random = Random::new(8, 1);
+    for index in 0..12 {
+        let line = read(&crate::sheets::large(7, index)).unwrap();
+        let mut run = Running::nothing(&line);
+        check_limits(&line, &run);
+        let limits = run.limit.clone();
+        while run.add() {
+            if random.once_in(200) {
+                check_searches(&line, &run);
+            }
+        }
+        check_searches(&line, &run);
+        let near = |(&limit, &bits): (&u8, &u8)| match random.below(16) {
+            0 => limit,
+            1 => 0,
+            _ => bits,
+        };
+        let start: Vec<u8> = limits.iter().zip(&run.bits).map(near).collect();
+        let mut refitted = Running::from_start(&line, &start).unwrap();
+        let plain = plain_refit(&line, &refitted);
+        check_searches(&line, &refitted);
+        let mut moves = 0;
+        while refitted.refit_step() {
+            moves += 1;
+        }
+        assert_eq!(refitted.bits, run.bits, "line {index}");
+        assert_eq!((moves, held(&line, &refitted)), plain, "line {index}");
+    }
 }

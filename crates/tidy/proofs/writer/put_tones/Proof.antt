@@ -18,11 +18,17 @@ loop-holds c =
     let a = c .before .before .args in
     (omega arith, written-none (copyAt (a .s .now) (a .places .now) (a .rests .now)) (a .out .now) (a .at))
 
+cast-put-tone : tie.Need-cast-put-tone Inv-loop μ-loop
+cast-put-tone c = omega arith
+
 mul-put-tone : tie.Need-mul-put-tone Inv-loop μ-loop
 mul-put-tone c = omega arith
 
 element-copy-out-put-tone : tie.Need-element-copy-out-put-tone Inv-loop μ-loop
 element-copy-out-put-tone c = omega arith
+
+cast-put-tone-2 : tie.Need-cast-put-tone-2 Inv-loop μ-loop
+cast-put-tone-2 c = omega arith
 
 mul-put-tone-2 : tie.Need-mul-put-tone-2 Inv-loop μ-loop
 mul-put-tone-2 c = omega arith
@@ -68,8 +74,10 @@ put-tones-spec =
     Inv-loop
     μ-loop
     loop-holds
+    cast-put-tone
     mul-put-tone
     element-copy-out-put-tone
+    cast-put-tone-2
     mul-put-tone-2
     element-copy-out-put-tone-2
     put-tone-requires

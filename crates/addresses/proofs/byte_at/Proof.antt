@@ -1,9 +1,9 @@
--- `places::byte_at` meets its contract. Assumes nothing.
+-- `addresses::byte_at` meets its contract. Assumes nothing.
 use mathlib.Core.Path.{sym}
 use borrow.Author.Needs.{needs}
 use lib.ListN.{List·getD-eq-default}
-use Rattle.places.proofs.byte_at.Statement.{statement}
-use Rattle.places.proofs.byte_at.Tie as tie
+use Rattle.addresses.proofs.byte_at.Statement.{statement}
+use Rattle.addresses.proofs.byte_at.Tie as tie
 
 returns-2 : tie.Need-returns-2
 returns-2 c = sym (List·getD-eq-default (c .before .args .s .now) 0 (c .if1 .left))
