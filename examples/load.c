@@ -33,7 +33,7 @@ static uint8_t answer[TOQHAYMI_ANSWER_BYTES];
 /* Why a call was refused, by refusal number; what its place is, if that is not 0. */
 static const struct { const char *why, *place; } refusals[] = {
     {"accepted", NULL},
-    {"the sheet has more than 4096 bytes", NULL},
+    {"the sheet has more than 32768 bytes", NULL},
     {"the sheet ends where a command or the rest of its operands should stand", "its length"},
     {"a command byte is not one allowed there", "byte"},
     {"an operand is outside its range", "byte"},

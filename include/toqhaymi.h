@@ -16,12 +16,14 @@
  * one call must not overlap. With length 0 the pointer may be any that is not
  * null. Sheet and start are only read.
  *
- * Sheet.  A line sheet, at most 4096 bytes. Its first command gives N, the
- *         number of tones, 1 to 256. Its second gives the gap, in 1/256 (02) or
+ * Sheet.  A line sheet, at most 32768 bytes. Its first command gives N, the
+ *         number of tones, 1 to 1024. Its second gives the gap, in 1/256 (02) or
  *         in tenths of a decibel (08). Tones have whole numbers (04, 05) or, as
  *         a line analyser reads them, 32-bit IEEE floats, high byte first (09,
  *         0A). A tone may have a rest, the power that it sends where it carries
- *         no bits (0B).
+ *         no bits (0B). These five have a tone number of one byte, 0 to 255.
+ *         Each has a twin (14, 15, 19, 1A, 1B, in hex) with a tone number of two
+ *         bytes, high byte first, and with its other operands alike.
  * Table.  9 bytes a tone, from tone 0 up: its bits, then its power in 8 bytes,
  *         high byte first. At least 9 x N bytes. The power of no bits is the
  *         tone's rest: 0 where none is given, and 0 for a tone that is silenced
@@ -55,20 +57,20 @@ extern "C" {
 #endif
 
 /* The version of the calls and of this header. */
-#define TOQHAYMI_VERSION "1.5.0"
+#define TOQHAYMI_VERSION "1.6.0"
 #define TOQHAYMI_VERSION_MAJOR 1
-#define TOQHAYMI_VERSION_MINOR 5
+#define TOQHAYMI_VERSION_MINOR 6
 #define TOQHAYMI_VERSION_PATCH 0
 
 /* The most stack that a call takes, in bytes. */
-#define TOQHAYMI_STACK_BYTES 16384
+#define TOQHAYMI_STACK_BYTES 65536
 
 /* Sizes in bytes, and the most tones that a line has. */
-#define TOQHAYMI_LARGEST_SHEET 4096
-#define TOQHAYMI_MOST_TONES 256
+#define TOQHAYMI_LARGEST_SHEET 32768
+#define TOQHAYMI_MOST_TONES 1024
 #define TOQHAYMI_BYTES_A_TONE 9
-#define TOQHAYMI_LARGEST_TABLE 2304
-#define TOQHAYMI_LARGEST_TIDY 4096
+#define TOQHAYMI_LARGEST_TABLE 9216
+#define TOQHAYMI_LARGEST_TIDY 32768
 #define TOQHAYMI_ANSWER_BYTES 24
 
 /* The bytes of a table for a line of so many tones. */
@@ -81,7 +83,7 @@ extern "C" {
  */
 enum toqhaymi_refusal {
     TOQHAYMI_ACCEPTED = 0,
-    /* The sheet has more than 4096 bytes. Place 0. */
+    /* The sheet has more than 32768 bytes. Place 0. */
     TOQHAYMI_SHEET_TOO_LONG = 1,
     /* The sheet ends where a command or its operands should stand. Place: its length. */
     TOQHAYMI_SHEET_ENDS_EARLY = 2,
@@ -91,7 +93,7 @@ enum toqhaymi_refusal {
     TOQHAYMI_OPERAND_OUT_OF_RANGE = 4,
     /* A tone, or a tone that a map names, is N or more. Place: first byte of that operand. */
     TOQHAYMI_TONE_NOT_ON_LINE = 5,
-    /* The tone is already described. Place: its tone operand. */
+    /* The tone is already described. Place: first byte of its tone operand. */
     TOQHAYMI_TONE_REPEATED = 6,
     /* Bytes follow the end command. Place: the first of them. */
     TOQHAYMI_BYTES_AFTER_END = 7,
@@ -107,7 +109,7 @@ enum toqhaymi_refusal {
     TOQHAYMI_FLOAT_OUT_OF_RANGE = 12,
     /* Noise / gain is infinite, or the cost over 16776705. Place: the command's first float. */
     TOQHAYMI_COST_OUT_OF_RANGE = 13,
-    /* The tone of 0B is not described yet, or has had a 0B. Place: its tone operand. */
+    /* A rest's tone is not described yet, or has had one. Place: first byte of the tone operand. */
     TOQHAYMI_TONE_CANNOT_TAKE = 14,
     /* A rest is not below the tone's cost, or is above its mask. Place: its first byte. */
     TOQHAYMI_REST_OUT_OF_RANGE = 15,
@@ -182,7 +184,8 @@ uint64_t toqhaymi_refit_step(const uint8_t *sheet, size_t sheet_length,
 /*
  * Writes the same line as a tidy sheet: the gap by the command that the sheet
  * had, tones in rising order, each by its own command and with the same float
- * bits, and straight after it its rest, if that is not 0, then one silence
+ * bits, and straight after it its rest, if that is not 0, both by the short
+ * command for tones 0 to 255 and by its twin from 256 on, then one silence
  * command for each word that silences a tone.
  * Answers: the tidy sheet's length.
  * Refusals: 1 to 8 and 12 to 16.
