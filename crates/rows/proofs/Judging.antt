@@ -5,7 +5,7 @@
 -- - `described-at`, `no-tone-yet`, `has-rest`, `no-rest-yet`, `rest-judged`: whether a tone is described and takes a rest, from its places;
 -- - `header-width`, `number-codes`, `tone-row`, `rest-row`, `end-row`: the rows by their bytes, as the code finds them.
 -- Assumes nothing.
-use mathlib.Core.Path.{_≡_, refl, sym, ap, _∙_}
+use mathlib.Core.Path.{_≡_, refl, sym, ap}
 use mathlib.Core.Bool.{Bool, true, false, cond}
 use mathlib.Core.Logic.{inl, inr, ⊎-elim}
 use mathlib.Core.List.{List, [], _∷_}

@@ -1,4 +1,4 @@
--- The rows of document 01's sizes by their command bytes, as the code finds them, and what it knows of a tone by its places.
+-- The rows of a sheet's commands by their command bytes, as the code finds them, and what it knows of a tone by its places.
 -- Assumes nothing.
 use mathlib.Core.Bool.{true, false, cond}
 use mathlib.Core.List.{List, _++_}

@@ -8,7 +8,7 @@
 -- Assumes nothing.
 use mathlib.Core.Bool.{Bool, true, false}
 use mathlib.Core.List.{List, [], _∷_}
-use mathlib.Core.Path.{_≡_, refl, ap, sym, _∙_}
+use mathlib.Core.Path.{_≡_, refl, _∙_}
 use Prim.Native.Nat.{ℕ, zero, suc, _+_, _*_, _^_, _≤_, _<_}
 use native.Mathlib.Decide.{decLe}
 use native.Mathlib.Nat.{zero-div}
@@ -41,7 +41,7 @@ use Rattle.rows.specs.declared.Header.{Header}
 use Rattle.rows.specs.declared.Command.the-variants.{Describe, Silence}
 use Rattle.addresses.specs.Addresses.{codeOf, numberWidth, shortOf, addressed}
 use Rattle.places.specs.Places.{numbersAt, levelsAt, ratioAt, kindAt, toneAt, restAt}
-use Rattle.rows.specs.Rows.{Operand, isRestOf, describing, numbers, levelOperands, ratioOperands, levels, ratio, rest, silence, width}
+use Rattle.rows.specs.Rows.{Seen, Operand, isRestOf, describing, numbers, levelOperands, ratioOperands, levels, ratio, rest, silence, width}
 use Rattle.command.specs.Format.{today}
 use Rattle.command.proofs.Walk.{Each, Passed, passes, takes, in-within}
 use Rattle.sheet.specs.Reading.{accepted, headerOf, bareLine, withEntry, effect, SoFar, knownOf, saidIn, said, reading}
@@ -177,10 +177,14 @@ module _ (s : List ℕ) (bytes : Bytes s) where
     abbrev l : Line
     l = x .line
 
+    -- what the operands after a tone's number see
+    abbrev seenAfter : (w : ℕ) → Seen
+    seenAfter w = record { header = headerOf l; known = knownOf x (addressed s at); before = number s (at + 1) w ∷ [] }
+
     -- the tone that a command describes is the one that its byte has, with what it carries
     tone-leads : (n w short : ℕ) (os : List Operand) (kind : Kind) → shortOf (codeOf w short) ≡ short → numberWidth (codeOf w short) ≡ w
         → kindAt short s (at + 1 + w) ≡ kind → Sound l
-        → (at + 1 + w + width os ≤ length s → Passed (record { header = headerOf l; known = knownOf x (addressed s at); before = number s (at + 1) w ∷ [] }) s (at + 1 + w) os
+        → (at + 1 + w + width os ≤ length s → Passed (seenAfter w) s (at + 1 + w) os
         → InRange (gapOf l) (record { kind = kind }))
         → Leads today s Along Sound at (suc (suc (suc n))) x (describing w short os)
     tone-leads n w short os kind back wide is z range own fits p =
@@ -193,7 +197,7 @@ module _ (s : List ℕ) (bytes : Bytes s) where
     numbers-lead n w short single back wide kind z = tone-leads n w short (numbers single) (kindOf single (numbersAt s (at + 1 + w))) back wide kind z (range (at + 1 + w))
       where
         range : (from : ℕ) → from + width (numbers single) ≤ length s
-            → Passed (record { header = headerOf l; known = knownOf x (addressed s at); before = number s (at + 1) w ∷ [] }) s from (numbers single)
+            → Passed (seenAfter w) s from (numbers single)
             → InRange (gapOf l) (record { kind = kindOf single (numbersAt s from) })
         range from whole p =
             let noise = in-within (number s from 2) 1 65535 _ _ (p .0) in
@@ -212,7 +216,7 @@ module _ (s : List ℕ) (bytes : Bytes s) where
     levels-lead n w back wide z = tone-leads n w 9 levelOperands (Read (levelsAt s (at + 1 + w))) back wide refl z (range (at + 1 + w))
       where
         range : (from : ℕ) → from + width levelOperands ≤ length s
-            → Passed (record { header = headerOf l; known = knownOf x (addressed s at); before = number s (at + 1) w ∷ [] }) s from levelOperands
+            → Passed (seenAfter w) s from levelOperands
             → InRange (gapOf l) (record { kind = Read (levelsAt s from) })
         range from whole p =
             let noise = takes (isUsable (number s from 4)) _ _ (p .0) .0 in
@@ -230,7 +234,7 @@ module _ (s : List ℕ) (bytes : Bytes s) where
     ratio-leads n w back wide z = tone-leads n w 10 ratioOperands (Read (ratioAt s (at + 1 + w))) back wide refl z (range (at + 1 + w))
       where
         range : (from : ℕ) → from + width ratioOperands ≤ length s
-            → Passed (record { header = headerOf l; known = knownOf x (addressed s at); before = number s (at + 1) w ∷ [] }) s from ratioOperands
+            → Passed (seenAfter w) s from ratioOperands
             → InRange (gapOf l) (record { kind = Read (ratioAt s from) })
         range from whole p =
             let float = takes (isUsable (number s from 4)) _ _ (p .0) in

@@ -15,8 +15,9 @@ use Rattle.sheet.proofs.Sound.{Bytes}
 use Rattle.sheet.proofs.Uses.{size-is, line-sound, line-in-range}
 use Rattle.tidyform.specs.Tidy.{toneBytes, mapBytes, headBytes, tidy}
 use Rattle.tidyform.proofs.Length.{length-tidy}
-use Rattle.tidy.specs.Copies.{Inside, copies}
-use Rattle.tidy.proofs.Copies.{tone-inside, rest-inside, copies-are, maps-are}
+use Rattle.tidytones.specs.Copies.{Inside, copies}
+use Rattle.tidytones.proofs.Copies.{tone-inside, rest-inside, copies-are}
+use Rattle.tidy.proofs.Maps.{maps-are}
 use Rattle.tidy.proofs.Writes.{line-stores}
 
 module _ {s places rests maps : List ℕ} {h : Header} (x : Indexed s h places rests maps) where

@@ -1,4 +1,4 @@
-pub mod Copies
+pub mod Maps
 pub mod Writes
 pub mod Index
 pub mod Outcomes

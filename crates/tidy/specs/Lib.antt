@@ -1,2 +1,1 @@
 pub mod Tidying
-pub mod Copies

@@ -1,7 +1,7 @@
 -- Operands in range, and the commands of a tone: its own is allowed, describes the tone, and meets no refusal where the tone is in range;
 -- nor does its rest's, where the tone is described and has had none.
 -- Assumes nothing.
-use mathlib.Core.Path.{_≡_, refl, sym, ap, _∙_}
+use mathlib.Core.Path.{_≡_, refl, ap}
 use mathlib.Core.Bool.{Bool, false, true}
 use mathlib.Core.List.{List, [], _∷_, _++_}
 use mathlib.Core.Logic.{⊎-elim}
@@ -16,13 +16,13 @@ use Rattle.silence.specs.Map.{namesBeyond}
 use Rattle.gaps.specs.Gap.{parts}
 use Rattle.readings.specs.declared.Reading.{Reading}
 use Rattle.readings.specs.declared.Reading.the-variants.{Both, Ratio}
-use Rattle.readings.specs.Reading.{isUsable, FloatInRange, readingCost, isOver, ReadingInRange}
+use Rattle.readings.specs.Reading.{FloatInRange, readingCost, isOver, ReadingInRange}
 use Rattle.readings.proofs.Readings.{back-usable, back-fits, float-back, not-over}
 use Rattle.line.specs.declared.Numbers.{Numbers}
 use Rattle.line.specs.declared.Kind.{Kind}
 use Rattle.line.specs.declared.Kind.the-variants.{Pair, Single, Read}
 use Rattle.line.specs.declared.Tone.{Tone}
-use Rattle.line.specs.Tone.{mostCap, kindCost, Cost, NumbersInRange, InRange, RestInRange}
+use Rattle.line.specs.Tone.{mostCap, kindCost, NumbersInRange, InRange, RestInRange}
 use Rattle.line.specs.Line.{described, isDescribed}
 use Rattle.line.proofs.Rested.{takes-rest}
 use Rattle.addresses.proofs.Widths.{IsWidth}
@@ -79,25 +79,13 @@ bounds most c m small c-high m-high = ranged 1 0 most c (omega arith) (omega ari
 
 -- it is allowed after the first three commands, and describes the tone
 pub tone-found : (w : ℕ) → IsWidth w → (k : Kind) → withCode (today .rows 3) (kindRow w k .code) ≡ some (kindRow w k)
-tone-found w wide k = ⊎-elim (λ e. rw e (short k)) (λ e. rw e (twin k)) wide
+tone-found w wide (Pair n) = ⊎-elim (λ e. rw e) (λ e. rw e) wide
+tone-found w wide (Single n) = ⊎-elim (λ e. rw e) (λ e. rw e) wide
+tone-found w wide (Read n) = by (n .reading)
   where
-    short : (k : Kind) → withCode (today .rows 3) (kindRow 1 k .code) ≡ some (kindRow 1 k)
-    short (Pair n) = refl
-    short (Single n) = refl
-    short (Read n) = by (n .reading)
-      where
-        by : (r : Reading) → withCode (today .rows 3) (readingRow 1 r .code) ≡ some (readingRow 1 r)
-        by (Both l) = refl
-        by (Ratio x) = refl
-
-    twin : (k : Kind) → withCode (today .rows 3) (kindRow 2 k .code) ≡ some (kindRow 2 k)
-    twin (Pair n) = refl
-    twin (Single n) = refl
-    twin (Read n) = by (n .reading)
-      where
-        by : (r : Reading) → withCode (today .rows 3) (readingRow 2 r .code) ≡ some (readingRow 2 r)
-        by (Both l) = refl
-        by (Ratio x) = refl
+    by : (r : Reading) → withCode (today .rows 3) (readingRow w r .code) ≡ some (readingRow w r)
+    by (Both l) = ⊎-elim (λ e. rw e) (λ e. rw e) wide
+    by (Ratio x) = ⊎-elim (λ e. rw e) (λ e. rw e) wide
 
 pub rest-found : (w : ℕ) → IsWidth w → withCode (today .rows 3) (rest w .code) ≡ some (rest w)
 rest-found w = ⊎-elim (λ e. rw e) (λ e. rw e)

@@ -8,7 +8,7 @@ use native.Mathlib.Nat.{le-trans}
 use native.Mathlib.Omega.{arith}
 use borrow.Author.Tests.{ltb-true, ltb-false, eq-eqb, ne-eqb}
 use lib.Dec.{ltb, eqb}
-use lib.ListN.{length, getD, length-append}
+use lib.ListN.{length, length-append}
 use Rattle.sizes.specs.Sizes.{silenceCommand}
 use Rattle.lists.proofs.Tests.{by-test}
 use Rattle.bigendian.specs.Number.{byteBase}
@@ -20,10 +20,10 @@ use Rattle.readings.specs.declared.Reading.the-variants.{Both, Ratio}
 use Rattle.line.specs.declared.Kind.{Kind}
 use Rattle.line.specs.declared.Kind.the-variants.{Pair, Single, Read}
 use Rattle.line.specs.declared.Tone.{Tone}
-use Rattle.line.specs.Line.{Entry, undescribed, described}
+use Rattle.line.specs.Line.{described}
 use Rattle.rows.specs.Rows.{describing, rest, width}
 use Rattle.rows.specs.Codes.{toneOperands, silenceRow}
-use Rattle.tidyform.specs.Tidy.{written, tidyWidth, readingRow, readingBits, kindRow, kindValues, restBytes, entryBytes, toneBytes, wordBytes, mapBytes}
+use Rattle.tidyform.specs.Tidy.{written, tidyWidth, readingRow, readingBits, kindRow, kindValues, restBytes, entryBytes, wordBytes}
 
 -- A command.
 

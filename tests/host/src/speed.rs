@@ -25,8 +25,7 @@ const ROUNDS: usize = 41;
 const ROUND: Duration = Duration::from_millis(1);
 /// How many tones the lines have.
 const TONES: [usize; 4] = [16, 64, 256, 1024];
-/// In the place of 256, so many tones by 09 and so many with a rest each: as many as 4,096
-/// bytes hold.
+/// In the place of 256, so many tones by 09 and so many with a rest each.
 const SHORT_OF_09: usize = 214;
 const SHORT_WITH_RESTS: usize = 194;
 

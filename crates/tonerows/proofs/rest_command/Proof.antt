@@ -1,6 +1,6 @@
 -- `tonerows::rest_command` meets its contract. Assumes nothing.
 use mathlib.Core.Bool.{Bool}
-use mathlib.Core.Path.{_≡_, sym, _∙_}
+use mathlib.Core.Path.{_≡_, sym, ap, _∙_}
 use Prim.Native.Nat.{ℕ, _+_, _≤_, _<_}
 use native.Mathlib.Omega.{arith}
 use borrow.Author.Needs.{needs}
@@ -9,9 +9,11 @@ use Rattle.bigendian.specs.Number.{number}
 use Rattle.bigendian.proofs.Numbers.{number-there}
 use Rattle.gaps.specs.Gap.{parts}
 use Rattle.line.specs.Tone.{InRange}
+use Rattle.refusals.specs.declared.Refusal.the-variants.{RestOutOfRange}
 use Rattle.addresses.specs.Addresses.{numberWidth}
 use Rattle.places.specs.Places.{toneAt, entryAt}
 use Rattle.places.proofs.Entries.{entry-there}
+use Rattle.rows.specs.declared.Command.the-variants.{Refused}
 use Rattle.rows.specs.Rows.{isRestOf}
 use Rattle.rows.proofs.Judging.{rest-operands, no-tone-yet, has-rest, no-rest-yet, rest-judged}
 use Rattle.tonerows.proofs.rest_command.Statement.{statement}
@@ -70,10 +72,10 @@ judged c b e =
 returns-4 : tie.Need-returns-4
 returns-4 c =
     let a = c .before .before .before .before .before .before .before .before .before .before .before .args in
-    rw (c .before .before .before .before .number-width .ensures .0)
-    (sym
+    ap (λ (w : ℕ). Refused (RestOutOfRange (a .at + 1 + w))) (c .before .before .before .before .number-width .ensures .0)
+    ∙ sym
     (rest-operands _ _ _ _ (numberWidth (a .code))
-    ∙ rw (lt-leb _ _ (of-line (c .before .before .before .before .before .before .before)), no-rest-yet (a .s .now) (a .place) (a .rested) (omega arith) (omega arith), judged (c .before) _ (not-true _ (c .if4 .taken)))))
+    ∙ rw (lt-leb _ _ (of-line (c .before .before .before .before .before .before .before)), no-rest-yet (a .s .now) (a .place) (a .rested) (omega arith) (omega arith), judged (c .before) _ (not-true _ (c .if4 .taken))))
 
 returns-5 : tie.Need-returns-5
 returns-5 c =

@@ -7,7 +7,7 @@ use Rattle.sizes.specs.Sizes.{mostWords, endCommand}
 use Rattle.sheet.proofs.Sound.{Bytes}
 use Rattle.sheet.proofs.Uses.{size-high}
 use Rattle.tidyform.specs.Tidy.{headBytes, mapBytes}
-use Rattle.tidy.specs.Copies.{copies}
+use Rattle.tidytones.specs.Copies.{copies}
 use Rattle.tidy.proofs.Index.{tones-inside, rests-inside, tidy-bytes, tidy-stores}
 use Rattle.tidy.proofs.writer.put_line.Statement.{statement}
 use Rattle.tidy.proofs.writer.put_line.Tie as tie
