@@ -138,7 +138,8 @@ pub fn silence_command(s: &[u8], at: usize, header: Header) -> Command
     Command::Silence(word, map)
 }
 
-// How many bytes the command of a byte has in all; a byte of no command counts as the end. None has more than the twin of 09.
+// How many bytes the command of a byte has in all: a twin one more than its short command, and a byte of no command as many as the end. None
+// has more than the twin of 09.
 pub fn bytes_of(code: u8) -> usize
     ensures { λ r. ⌜ (r ≡ commandBytes code) × (r ≤ levelsCommand + 1) ⌝ }
 {
