@@ -18,8 +18,16 @@ use std::time::Duration;
 pub const SHEETS: u64 = 600;
 const SEED: u64 = 2;
 /// The examples that there must be.
-const EXAMPLES: [&str; 7] =
-    ["analyser", "long_cable", "refused", "sample", "short_cable", "spliced_pair", "tracked_tones"];
+const EXAMPLES: [&str; 8] = [
+    "analyser",
+    "cable_head",
+    "long_cable",
+    "refused",
+    "sample",
+    "short_cable",
+    "spliced_pair",
+    "tracked_tones",
+];
 /// Sheets that any comparison should have, before the random ones.
 const FIXED: u64 = 27;
 
