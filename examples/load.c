@@ -46,7 +46,7 @@ static const struct { const char *why, *place; } refusals[] = {
     {"no table within limits and budget carries so many bits", NULL},
     {"a float is not finite or not above zero", "byte"},
     {"noise / gain is infinite, or the cost of the tone is over 16776705", "byte"},
-    {"the tone is not described yet, or has had its rest already", "byte"},
+    {"the tone is not described yet, or has had its rest or its high noise already", "byte"},
     {"the rest is not below the cost of the tone, or is above its mask", "byte"},
     {"the rests of the tones that are not silenced add up to more than the budget", NULL},
 };

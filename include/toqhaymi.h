@@ -21,9 +21,11 @@
  *         in tenths of a decibel (08). Tones have whole numbers (04, 05) or, as
  *         a line analyser reads them, 32-bit IEEE floats, high byte first (09,
  *         0A). A tone may have a rest, the power that it sends where it carries
- *         no bits (0B). These five have a tone number of one byte, 0 to 255.
- *         Each has a twin (14, 15, 19, 1A, 1B, in hex) with a tone number of two
- *         bytes, high byte first, and with its other operands alike.
+ *         no bits (0B). A tone with whole numbers may have a high noise, its
+ *         noise or above (0C): the tidy sheet has it, and nothing else here goes
+ *         by it. These six have a tone number of one byte, 0 to 255. Each has a
+ *         twin (14, 15, 19, 1A, 1B, 1C, in hex) with a tone number of two bytes,
+ *         high byte first, and with its other operands alike.
  * Table.  9 bytes a tone, from tone 0 up: its bits, then its power in 8 bytes,
  *         high byte first. At least 9 x N bytes. The power of no bits is the
  *         tone's rest: 0 where none is given, and 0 for a tone that is silenced
@@ -57,9 +59,9 @@ extern "C" {
 #endif
 
 /* The version of the calls and of this header. */
-#define TOQHAYMI_VERSION "1.6.0"
+#define TOQHAYMI_VERSION "1.7.0"
 #define TOQHAYMI_VERSION_MAJOR 1
-#define TOQHAYMI_VERSION_MINOR 6
+#define TOQHAYMI_VERSION_MINOR 7
 #define TOQHAYMI_VERSION_PATCH 0
 
 /* The most stack that a call takes, in bytes. */
@@ -89,7 +91,7 @@ enum toqhaymi_refusal {
     TOQHAYMI_SHEET_ENDS_EARLY = 2,
     /* A command is not one allowed there. Place: its byte. */
     TOQHAYMI_COMMAND_NOT_ALLOWED = 3,
-    /* An operand is outside its range. Place: its first byte. */
+    /* An operand is outside its range, or 0C has a tone of 09 or 0A. Place: its first byte. */
     TOQHAYMI_OPERAND_OUT_OF_RANGE = 4,
     /* A tone, or a tone that a map names, is N or more. Place: first byte of that operand. */
     TOQHAYMI_TONE_NOT_ON_LINE = 5,
@@ -109,7 +111,7 @@ enum toqhaymi_refusal {
     TOQHAYMI_FLOAT_OUT_OF_RANGE = 12,
     /* Noise / gain is infinite, or the cost over 16776705. Place: the command's first float. */
     TOQHAYMI_COST_OUT_OF_RANGE = 13,
-    /* A rest's tone is not described yet, or has had one. Place: first byte of the tone operand. */
+    /* The tone of 0B or 0C is not described yet, or has had that. Place: its first byte. */
     TOQHAYMI_TONE_CANNOT_TAKE = 14,
     /* A rest is not below the tone's cost, or is above its mask. Place: its first byte. */
     TOQHAYMI_REST_OUT_OF_RANGE = 15,
@@ -184,9 +186,9 @@ uint64_t toqhaymi_refit_step(const uint8_t *sheet, size_t sheet_length,
 /*
  * Writes the same line as a tidy sheet: the gap by the command that the sheet
  * had, tones in rising order, each by its own command and with the same float
- * bits, and straight after it its rest, if that is not 0, both by the short
- * command for tones 0 to 255 and by its twin from 256 on, then one silence
- * command for each word that silences a tone.
+ * bits, and straight after it its rest, if that is not 0, and its high noise, if
+ * that is above its noise, all by the short command for tones 0 to 255 and by its
+ * twin from 256 on, then one silence command for each word that silences a tone.
  * Answers: the tidy sheet's length.
  * Refusals: 1 to 8 and 12 to 16.
  */

@@ -1,6 +1,7 @@
 /*
  * A client in C: the sample line of document 01 by all six calls, a gap in tenths of
- * a decibel, tones that a line analyser read, tones with a rest, a full line, and refusals.
+ * a decibel, tones that a line analyser read, tones with a rest, tones with a high noise, a
+ * full line, and refusals.
  */
 #include "toqhaymi.h"
 
@@ -24,9 +25,10 @@ static const uint8_t sheet[61] = {
 /* The sample with a tone by 09, which has two numbers of 4 bytes where 04 has them of 2. */
 #define WITH_09 (sizeof sheet + 4)
 
-/* The sample with a rest on each tone, by 0B. */
+/* The sample with a rest, by 0B, and a high noise, by 0C, on each tone. */
 #define REST_BYTES 6
-#define LONGEST (sizeof sheet + TONES * REST_BYTES)
+#define HIGH_BYTES 4
+#define LONGEST (sizeof sheet + TONES * (REST_BYTES + HIGH_BYTES))
 
 /* Lent to each call anew; a few bytes longer than need be. */
 static uint8_t table[TABLE_BYTES + 4];
@@ -423,8 +425,8 @@ static void tidy_rests(void)
 }
 
 /* The sample at a budget with commands at byte 60, by every call. */
-static void refused_rest(uint8_t budget, const uint8_t *commands, size_t commands_length,
-                         uint32_t number, uint32_t place)
+static void refused_by_all(uint8_t budget, const uint8_t *commands, size_t commands_length,
+                           uint32_t number, uint32_t place)
 {
     static const uint8_t start[TONES] = {0, 2, 3};
     uint8_t bytes[LONGEST];
@@ -460,13 +462,13 @@ static void refused_rests(void)
     static const uint8_t four_bytes[] = {0x0b, 1, 1, 0, 0, 0};
     static const uint8_t of_silenced[] = {0x06, 0, 0, 0, 0, 1, 0x0b, 0, 0, 0, 0, 3};
 
-    refused_rest(39, again, sizeof again, TOQHAYMI_TONE_CANNOT_TAKE, 67);
-    refused_rest(39, after_0, sizeof after_0, TOQHAYMI_TONE_CANNOT_TAKE, 67);
-    refused_rest(39, not_on_line, sizeof not_on_line, TOQHAYMI_TONE_NOT_ON_LINE, 61);
-    refused_rest(39, as_the_cost, sizeof as_the_cost, TOQHAYMI_REST_OUT_OF_RANGE, 68);
-    refused_rest(39, four_bytes, sizeof four_bytes, TOQHAYMI_REST_OUT_OF_RANGE, 62);
-    refused_rest(39, of_silenced, sizeof of_silenced, TOQHAYMI_REST_OUT_OF_RANGE, 68);
-    refused_rest(2, rests_2_and_1, sizeof rests_2_and_1, TOQHAYMI_RESTS_OVER_BUDGET, 0);
+    refused_by_all(39, again, sizeof again, TOQHAYMI_TONE_CANNOT_TAKE, 67);
+    refused_by_all(39, after_0, sizeof after_0, TOQHAYMI_TONE_CANNOT_TAKE, 67);
+    refused_by_all(39, not_on_line, sizeof not_on_line, TOQHAYMI_TONE_NOT_ON_LINE, 61);
+    refused_by_all(39, as_the_cost, sizeof as_the_cost, TOQHAYMI_REST_OUT_OF_RANGE, 68);
+    refused_by_all(39, four_bytes, sizeof four_bytes, TOQHAYMI_REST_OUT_OF_RANGE, 62);
+    refused_by_all(39, of_silenced, sizeof of_silenced, TOQHAYMI_REST_OUT_OF_RANGE, 68);
+    refused_by_all(2, rests_2_and_1, sizeof rests_2_and_1, TOQHAYMI_RESTS_OVER_BUDGET, 0);
 }
 
 /* A tone that is silenced sends nothing, so its rest fits a budget of 0. */
@@ -518,6 +520,65 @@ static void rests_before_tones(void)
     bytes[36] = 0x07;
     expect_refusal("check", toqhaymi_check(bytes, 37, answer, sizeof answer),
                    TOQHAYMI_TONE_CANNOT_TAKE, 31);
+}
+
+/*
+ * High noises of tones 0 and 2, by 0C and 1C, and of tone 1 as large as its noise; tone 0 has a
+ * rest. The loading is the sample's. In the tidy sheet each high noise comes after its tone's
+ * rest, and that of tone 1 goes.
+ */
+static void high_noises(void)
+{
+    static const uint8_t commands[] = {
+        0x0c, 0, 0, 9, 0x1c, 0, 2, 0xff, 0xff, 0x0b, 0, 0, 0, 0, 2, 0x0c, 1, 0, 5
+    };
+    static const uint8_t of_tone_0[] = {0x0b, 0, 0, 0, 0, 2, 0x0c, 0, 0, 9};
+    static const uint8_t of_tone_2[] = {0x0c, 2, 0xff, 0xff};
+    static const uint64_t counts[] = {3, 3, 0}, totals[] = {6, 39}, powers[] = {21, 15, 3};
+    static const uint64_t tidy_length[] = {sizeof sheet + REST_BYTES + 2 * HIGH_BYTES};
+    static const uint8_t bits[] = {3, 2, 1};
+    uint8_t bytes[LONGEST], due[sizeof sheet + REST_BYTES + 2 * HIGH_BYTES];
+    size_t length = with_commands(bytes, 39, commands, sizeof commands);
+
+    lend();
+    expect_answers("check", toqhaymi_check(bytes, length, answer, sizeof answer), 3, counts);
+    lend();
+    expect_answers("load_most",
+                   toqhaymi_load_most(bytes, length, table, sizeof table, answer, sizeof answer),
+                   2, totals);
+    expect_table(bits, powers);
+    memcpy(due, sheet, 30);
+    memcpy(due + 30, of_tone_0, sizeof of_tone_0);
+    memcpy(due + 40, sheet + 30, 30);
+    memcpy(due + 70, of_tone_2, sizeof of_tone_2);
+    due[74] = 0x07;
+    lend();
+    expect_answers("tidy",
+                   toqhaymi_tidy(bytes, length, tidy, sizeof tidy, answer, sizeof answer),
+                   1, tidy_length);
+    expect("the tidy sheet's difference", memcmp(tidy, due, sizeof due) != 0, 0);
+    expect_untouched("a byte after the tidy sheet", tidy, sizeof due, sizeof tidy);
+}
+
+/* Below the noise of tone 0, which is 3; after another; of no tone; and of a tone by 0A. */
+static void refused_high_noises(void)
+{
+    static const uint8_t below[] = {0x0c, 0, 0, 2};
+    static const uint8_t again[] = {0x0c, 0, 0, 3, 0x1c, 0, 0, 0, 2};
+    static const uint8_t not_on_line[] = {0x1c, 1, 0, 0, 9};
+    static const uint8_t of_reading[] = {0x0c, 0, 0, 9, 0x07};
+    uint8_t bytes[LONGEST];
+
+    refused_by_all(39, below, sizeof below, TOQHAYMI_OPERAND_OUT_OF_RANGE, 62);
+    refused_by_all(39, again, sizeof again, TOQHAYMI_TONE_CANNOT_TAKE, 65);
+    refused_by_all(39, not_on_line, sizeof not_on_line, TOQHAYMI_TONE_NOT_ON_LINE, 61);
+    with_tone_0(bytes, by_0a, sizeof by_0a);
+    memcpy(bytes + 60, of_reading, sizeof of_reading);
+    lend();
+    expect_refusal("check", toqhaymi_check(bytes, 65, answer, sizeof answer),
+                   TOQHAYMI_OPERAND_OUT_OF_RANGE, 61);
+    expect_refusal("check", toqhaymi_check(bytes, 63, answer, sizeof answer),
+                   TOQHAYMI_SHEET_ENDS_EARLY, 63);
 }
 
 static void refusals(void)
@@ -774,6 +835,8 @@ int main(void)
     refused_rests();
     rests_and_masks();
     rests_before_tones();
+    high_noises();
+    refused_high_noises();
     full_line();
     refused_twins();
     refusals();

@@ -1,12 +1,12 @@
 #!/usr/bin/env python3
-"""A model of document 01 and of document 02's requests W1, W3 and W5 to W8, written from the papers and the readings of docs/DECISIONS.md:
-reading a sheet with its refusals, check, tidy, the limits, the loadings, the re-fit and the totals at many budgets. Plain and slow;
-floats are worked out in whole numbers and fractions.
+"""A model of document 01 and of document 02's requests W1, W3 and W5 to W9, written from the papers and the readings of docs/DECISIONS.md:
+reading a sheet with its refusals, check, tidy, the limits, the loadings, the guarded one among them, the re-fit and the totals at many
+budgets. Plain and slow; floats are worked out in whole numbers and fractions.
 
   model.py < stdin > stdout      what the test program prints for a text of calls
   model.py --selftest            the paper's own statements
 """
-import functools, math, re, sys
+import copy, functools, math, re, sys
 from fractions import Fraction
 
 
@@ -29,6 +29,7 @@ AFTER_TONE = {
     0x09: [("noise float", 4), ("gain float", 4), ("cap", 1), ("mask", 8)],
     0x0a: [("ratio float", 4), ("cap", 1), ("mask", 8)],
     0x0b: [("rest", 4)],
+    0x0c: [("high noise", 2)],
 }
 
 
@@ -66,6 +67,8 @@ GROWTH = {0x04: 2, 0x05: 4, 0x09: 2, 0x0a: 2}
 FLOATS = {0x09: ["noise float", "gain float"], 0x0a: ["ratio float"]}
 # "the cost is over 16,776,705".
 LARGEST_COST = 16776705
+# What is given of a tone that is described already, once each.
+ADDED = (0x0b, 0x0c)
 
 
 @functools.lru_cache(maxsize=None)
@@ -119,14 +122,15 @@ def cost_of_floats(gap, floats):
 
 
 class Line:
-    """N, gap, budget, the described tones with what they carry, their rests, and the set of silenced tones. "Which it was", 02 or
-    08, "belongs to the line": `tenths` is the d of 08, and None where 02 gave the gap. `rests` has none of 0: a tone with one is a
-    tone without."""
+    """N, gap, budget, the described tones with what they carry, their rests and high noises, and the set of silenced tones. "Which it
+    was", 02 or 08, "belongs to the line": `tenths` is the d of 08, and None where 02 gave the gap. `rests` has none of 0, and `highs`
+    none that equals the noise: a tone with one is a tone without."""
 
     def __init__(self):
         self.size = self.gap = self.tenths = self.budget = None
         self.tones = {}
         self.rests = {}
+        self.highs = {}
         self.silenced = set()
 
     def same(self, other):
@@ -135,7 +139,7 @@ class Line:
 
 def allowed(commands_read):
     """01, 02, 03 come first, each once, in that order, and 08 "may stand where 02 stands"; then any number of 04, 05, 06, of 09 and
-    0A, which describe a tone too, of 0B, and of twins; then 07."""
+    0A, which describe a tone too, of 0B, of 0C, and of twins; then 07."""
     if commands_read < 3:
         return [{0x01}, {0x02, 0x08}, {0x03}][commands_read]
     return {0x06, 0x07, *TONED}
@@ -173,24 +177,39 @@ def judge_rest(line, tone, rest, place):
         raise Refused(15, place)
 
 
+def noise_of(line, tone):
+    """The noise of a tone of 04 or 05."""
+    _, noise, *_ = line.tones[tone]
+    return noise
+
+
 def judge_tone(line, had, command, tone, place):
-    """Refusals 5, 6 and 14 of a tone operand: 14 where the tone "is in range but not yet described or has had a 0B already"."""
+    """Refusals 5, 6 and 14 of a tone operand, and 4 of that of 0C: 14 where the tone "is in range but not yet described or has had a 0B
+    already"; "a tone undescribed or given twice is 14, as in W6; then a tone of another command is 4 at the tone"."""
     if tone >= line.size:
         raise Refused(5, place)
-    if command == 0x0b:
-        if tone not in line.tones or tone in had:
+    if command in ADDED:
+        if tone not in line.tones or (command, tone) in had:
             raise Refused(14, place)
+        if command == 0x0c and line.tones[tone][0] in FLOATS:
+            raise Refused(4, place)
     elif tone in line.tones:
         raise Refused(6, place)
 
 
 def judge(line, had, command, name, value, values, place):
-    """Refusals 4, 5, 6, 12 to 15 of one operand, `values` holding it and those before it, `had` the tones that have had a 0B."""
+    """Refusals 4, 5, 6, 12 to 15 of one operand, `values` holding it and those before it, `had` the tones that have had a 0B, and those
+    that have had a 0C."""
     if name == "tone":
         judge_tone(line, had, command, value, place)
         return
     if name == "rest":
         judge_rest(line, values["tone"], value, place)
+        return
+    if name == "high noise":
+        # "then a high noise below the noise is 4 at that operand".
+        if value < noise_of(line, values["tone"]):
+            raise Refused(4, place)
         return
     if name == "map":
         if any(value >> k & 1 and 32 * values["word"] + k >= line.size for k in range(32)):
@@ -217,11 +236,13 @@ def act(line, command, values):
         line.silenced |= {32 * values["word"] + k for k in range(32) if values["map"] >> k & 1}
     elif command == 0x0b and values["rest"] > 0:
         line.rests[values["tone"]] = values["rest"]
+    elif command == 0x0c and values["high noise"] > noise_of(line, values["tone"]):
+        line.highs[values["tone"]] = values["high noise"]
 
 
 def said(sheet):
     """The line that the bytes of a sheet say; else Refused(number, place), of 1 to 7 and 12 to 15. A 0B is remembered "even of rest
-    0", by the reading alone. A twin is judged and does as its one-byte form, which is what the line knows."""
+    0", and a 0C even of the noise, by the reading alone. A twin is judged and does as its one-byte form, which is what the line knows."""
     if len(sheet) > LONGEST:
         raise Refused(1, 0)
     line, had, at, commands = Line(), set(), 0, 0
@@ -241,8 +262,8 @@ def said(sheet):
             judge(line, had, command, name, value, values, at)
             at += width
         act(line, command, values)
-        if command == 0x0b:
-            had.add(values["tone"])
+        if command in ADDED:
+            had.add((command, values["tone"]))
         commands += 1
         if command == 0x07:
             if at < len(sheet):
@@ -277,7 +298,8 @@ def named(command, tone, width=None):
 
 def tidy_form(line):
     """"The tidy form keeps whichever command the sheet had", and each tone its own, or its twin. "Tidying keeps the float bits", and
-    "puts 0B straight after its tone and drops one whose rest is 0", which the line does not have."""
+    "puts 0B straight after its tone and drops one whose rest is 0", which the line does not have; 0C "after the tone's rest", dropped
+    "where it equals the noise", likewise."""
     out = b"\x01" + line.size.to_bytes(2, "big")
     out += b"\x02" + line.gap.to_bytes(2, "big") if line.tenths is None else bytes([8, line.tenths])
     out += b"\x03" + line.budget.to_bytes(8, "big")
@@ -286,6 +308,8 @@ def tidy_form(line):
         out += named(command, tone) + b"".join(n.to_bytes(w, "big") for n, (_, w) in zip(numbers, AFTER_TONE[command]))
         if tone in line.rests:
             out += named(0x0b, tone) + line.rests[tone].to_bytes(4, "big")
+        if tone in line.highs:
+            out += named(0x0c, tone) + line.highs[tone].to_bytes(2, "big")
     for word in range(LAST_WORD + 1):
         joined = sum(1 << k for k in range(32) if 32 * word + k in line.silenced)
         if joined:
@@ -405,16 +429,35 @@ class Loading:
         return b"".join(bytes([bits]) + self.powers[tone][bits].to_bytes(8, "big") for tone, bits in enumerate(table))
 
 
+def with_noises(line, noises):
+    """The line with other noises of some of its tones, and no ranges."""
+    out = copy.copy(line)
+    out.tones = {tone: (command, noises.get(tone, level), *rest) for tone, (command, level, *rest) in line.tones.items()}
+    out.highs = {}
+    return out
+
+
 @functools.lru_cache(maxsize=None)
 def loading_of(sheet):
     return Loading(read(sheet))
 
 
 @functools.lru_cache(maxsize=None)
+def guarded_loading_of(sheet):
+    line = read(sheet)
+    return Loading(with_noises(line, line.highs))
+
+
+def seen_by(word, sheet):
+    """The tones as a call sees them: "a guarded loading uses every high noise", "all other loadings ignore 0C"."""
+    return guarded_loading_of(sheet) if word == "guarded" else loading_of(sheet)
+
+
+@functools.lru_cache(maxsize=None)
 def run(word, argument, sheet):
     """The table that a call ends in, and the moves: the start of a re-fit meets no refusal, and a target may be above what is carried."""
-    loading = loading_of(sheet)
-    if word == "most":
+    loading = seen_by(word, sheet)
+    if word in ("most", "guarded"):
         return loading.adding(), None
     if word == "target":
         return loading.adding(argument), None
@@ -433,8 +476,9 @@ def carried(loading, target, sheet):
 
 
 def call(word, argument, sheet, room):
-    """A loading (`most`, `target` with a number) or a re-fit (`refit`, `step`, each with a start): its answers and bytes."""
-    loading = loading_of(sheet)
+    """A loading (`most`, `guarded`, `target` with a number) or a re-fit (`refit`, `step`, each with a start): its answers and bytes. The
+    guarded one "also answers the total bits of the plain loading at the low noises"."""
+    loading = seen_by(word, sheet)
     if room < 9 * loading.line.size:
         raise Refused(8, 0)
     if word in ("refit", "step"):
@@ -448,6 +492,8 @@ def call(word, argument, sheet, room):
     table, moves = run(word, argument, sheet)
     hold(loading, word, argument, table, moves, sheet)
     answers = (sum(table), loading.total(table)) + (() if moves is None else (moves,))
+    if word == "guarded":
+        answers += (sum(run("most", None, sheet)[0]),)
     return answers, loading.written(table)
 
 
@@ -502,6 +548,11 @@ def hold(loading, word, argument, table, moves, sheet):
     if word == "refit":
         # Demand 3, and a bound on the moves: as many as the limits add up to.
         assert table == run("most", None, sheet)[0] and moves <= sum(loading.limits)
+    if word == "guarded":
+        # "for every choice of noises inside the ranges its table keeps limits and budget": here the low ones; `guarded_selftest` has all.
+        low = loading_of(sheet)
+        assert all(bits <= limit for bits, limit in zip(table, low.limits)) and low.total(table) <= power
+        assert bits <= sum(run("most", None, sheet)[0])
     if sum(loading.limits) <= 400:
         least = loading.least_powers()
         assert power == least[bits]
@@ -558,10 +609,14 @@ def tones_of(table):
     return "".join(" %d:%d" % (table[i], number(table[i + 1:i + 9])) for i in range(0, len(table), 9))
 
 
+# What the test program prints before the answers of each loading and re-fit.
+ANSWERED = {"most": "loaded", "guarded": "guarded", "target": "loaded", "refit": "refitted", "step": "refitted"}
+
+
 def call_of(row):
     """The word, the argument and the sheet of a line that is a loading, a re-fit or a list of budgets; else None."""
     word, _, rest = row.partition(" ")
-    if word not in ("most", "target", "refit", "step", "budgets"):
+    if word not in ANSWERED and word != "budgets":
         return None
     argument, slash, sheet = rest.partition("/")
     assert slash and len(sheet) > 0, row
@@ -577,7 +632,7 @@ def report_call(word, argument, sheet):
         size = 0
     try:
         answers, table = call(word, argument, sheet, ROOM)
-        lines = [" ".join(["loaded" if len(answers) == 2 else "refitted"] + [str(n) for n in answers])]
+        lines = [" ".join([ANSWERED[word]] + [str(n) for n in answers])]
         lines += ["table" + tones_of(table)]
         lines += ["exact " + ("same" if call(word, argument, sheet, 9 * size) == (answers, table) else "differs")]
     except Refused as r:
@@ -931,11 +986,11 @@ def tone_of(command):
 
 def twins_selftest():
     # "a twin, 10 (hex) higher": of the commands with a tone byte, and of no other.
-    assert sorted(TONED) == [4, 5, 9, 10, 11, 0x14, 0x15, 0x19, 0x1a, 0x1b] == sorted({*OPERANDS} - {1, 2, 3, 6, 7, 8})
+    assert sorted(TONED) == [4, 5, 9, 10, 11, 12, 0x14, 0x15, 0x19, 0x1a, 0x1b, 0x1c] == sorted({*OPERANDS} - {1, 2, 3, 6, 7, 8})
     assert all(refusal(SAMPLE[:15] + bytes([byte]) + SAMPLE[15:]) == (3, 15) for byte in range(256) if byte not in (6, 7, *TONED))
     # A sheet of twins says what the sheet of short commands says, and "tidying uses the short command for tones up to 255".
     read_off = SAMPLE[:15] + bytes.fromhex("09 00 40400000 3f800000 0f 0000000000000064 0a 01 40a00000 02 0000000000000064") + SAMPLE[45:]
-    for sheet in (SAMPLE, rested(39), read_off):
+    for sheet in (SAMPLE, rested(39), ranged(39), read_off):
         long = twinned(sheet)
         assert read(long).same(read(sheet)) and tidy(long, len(sheet)) == sheet and check(long) == check(sheet)
         assert len(long) > len(sheet) and all(refusal(long[:n]) == (2, n) for n in range(len(long)))
@@ -963,6 +1018,86 @@ def twins_selftest():
     assert read(at(1024, b"\6\x1f\x80\0\0\1")).silenced == {992, 1023} and refusal(at(1023, b"\6\x1f\x80\0\0\0")) == (5, 17)
 
 
+def ranged(budget, high_0=6, high_2=2, after=b""):
+    """The sample line with a high noise on tone 0 and on tone 2, straight after each, and what else stands before the end."""
+    highs = [named(0x0c, tone) + high.to_bytes(2, "big") for tone, high in ((0, high_0), (2, high_2))]
+    return sample(budget)[:30] + highs[0] + SAMPLE[30:60] + highs[1] + after + b"\x07"
+
+
+def ranges_selftest():
+    # "Command 0C (twin 1C) gives tone and high noise, 2 bytes, at least the tone's noise".
+    assert read(ranged(39)).highs == {0: 6, 2: 2} and check(ranged(39)) == (3, 3, 0) and len(ranged(39)) == 69
+    assert [refusal(ranged(39, high)) for high in (0, 2, 3, 65535)] == [(4, 32), (4, 32), (0, 0), (0, 0)]
+    assert all(refusal(ranged(39)[:n]) == (2, n) for n in range(69))
+    # "only for tones of 04, 05 or their twins": of others 4 at the tone, before the high noise is judged.
+    for reading in ("09 00 40400000 3f800000 0f 0000000000000064", "0a 00 40400000 0f 0000000000000064"):
+        for command in (bytes.fromhex(reading), twin(bytes.fromhex(reading))):
+            for high in (named(0x0c, 0), named(0x0c, 0, 2)):
+                assert refusal(SAMPLE[:15] + command + high + b"\0\6" + SAMPLE[30:]) == (4, 16 + len(command))
+                assert refusal(SAMPLE[:15] + command + high + b"\0\0" + SAMPLE[30:]) == (4, 16 + len(command))
+    # "A tone undescribed or given twice is 14, as in W6", before the high noise is judged, and even after one that is dropped; 5 before it.
+    for high in (b"\0\0", b"\0\6"):
+        assert refusal(SAMPLE[:15] + b"\x0c\0" + high + SAMPLE[15:]) == (14, 16)
+        assert refusal(SAMPLE[:15] + b"\x0c\3" + high + SAMPLE[15:]) == (5, 16)
+        for first in (3, 6):
+            for again in (named(0x0c, 0), named(0x0c, 0, 2)):
+                assert refusal(ranged(39, first, after=again + high)) == (14, 69)
+    # "anywhere after the tone": before and after its rest; "tidying puts it after the tone's rest, and drops it where it equals the noise".
+    rest, high = bytes.fromhex("0b0000000002"), bytes.fromhex("0c000006")
+    both = SAMPLE[:30] + rest + high + SAMPLE[30:]
+    for given in (rest + high, high + rest):
+        for sheet in (SAMPLE[:30] + given + SAMPLE[30:], SAMPLE[:60] + twinned(given) + b"\7"):
+            assert tidy(sheet, len(both)) == both and read(sheet).same(read(both))
+    assert tidy(ranged(39), 69) == ranged(39) and tidy(ranged(39, 3, 1), 61) == SAMPLE and read(ranged(39, 3, 1)).same(read(SAMPLE))
+    assert not read(ranged(39)).same(read(SAMPLE)) and not read(ranged(39, 7)).same(read(ranged(39)))
+    # 15 goes by the noise, and not by a high one before it.
+    for power, answer in [(2, (0, 0)), (3, (15, 36)), (5, (15, 36))]:
+        assert refusal(SAMPLE[:30] + high + b"\x0b\0" + power.to_bytes(4, "big") + SAMPLE[30:]) == answer
+    # "All other loadings ignore 0C".
+    for budget in (0, 3, 38, 39, 171):
+        for words in (("most", None), ("target", 1), ("refit", bytes([0, 2, 3])), ("step", bytes([5, 2, 3]))):
+            assert refused_call(*words, ranged(budget), 27) == refused_call(*words, sample(budget), 27)
+            assert refused_call(*words, sample(budget), 27) or call(*words, ranged(budget), 27) == call(*words, sample(budget), 27)
+        assert limits(ranged(budget), 6) == limits(SAMPLE, 6)
+        assert budgets_answer(ranged(budget), 0, 3, 38, 39, 171) == budgets_answer(SAMPLE, 0, 3, 38, 39, 171)
+
+
+def guarded_selftest():
+    # "A guarded loading uses every high noise", and "also answers the total bits of the plain loading at the low noises".
+    assert guarded_loading_of(ranged(39)).powers == [[0, 6, 18, 42, 90], [0, 5, 15], [0, 6, 30]]
+    cases = {2: ([0, 0, 0], 0, 0), 3: ([0, 0, 0], 0, 1), 5: ([0, 1, 0], 5, 1), 38: ([1, 2, 1], 27, 5), 39: ([2, 2, 1], 39, 6),
+             171: ([4, 2, 2], 135, 10)}
+    for budget, (table, power, plain) in cases.items():
+        answers, out = call("guarded", None, ranged(budget), 27)
+        assert answers == (sum(table), power, plain) and list(out[::9]) == table
+        # Without a range it is the loading for most bits.
+        (bits, power), out = call("most", None, sample(budget), 27)
+        assert call("guarded", None, sample(budget), 27) == call("guarded", None, ranged(budget, 3, 1), 27) == ((bits, power, bits), out)
+    assert refused_call("guarded", None, ranged(39), 26) == (8, 0) and refused_call("guarded", None, ranged(39)[:68], 0) == (2, 68)
+    # "For every choice of noises inside the ranges its table keeps limits and budget, and no table with that property carries more bits, or
+    # as many with less power at the high noises": every choice and every table.
+    import itertools, random
+    dice = random.Random(3)
+    for _ in range(60):
+        line = Line()
+        line.size, line.gap, line.budget = dice.randint(1, 3), dice.randint(256, 600), dice.randint(0, 120)
+        for tone in range(line.size):
+            line.tones[tone] = (dice.choice([4, 5]), dice.randint(1, 5), dice.randint(1, 3), dice.randint(0, 4), dice.randint(0, 90))
+            line.highs[tone] = noise_of(line, tone) + dice.randint(0, 3)
+            line.rests[tone] = dice.randint(0, min(cost_of(line, tone) - 1, line.tones[tone][-1]))
+        line.silenced = set(dice.sample(range(line.size), dice.randint(0, line.size // 2)))
+        line.budget += sum(line.rests.values())
+        ranges = [range(noise_of(line, tone), line.highs[tone] + 1) for tone in line.tones]
+        chosen = [Loading(with_noises(line, dict(enumerate(noises)))) for noises in itertools.product(*ranges)]
+        high, within = Loading(with_noises(line, line.highs)), []
+        for table in itertools.product(*(range(cap + 1) for *_, cap, _ in line.tones.values())):
+            if all(all(map(int.__le__, table, one.limits)) and one.total(table) <= line.budget for one in chosen):
+                within.append((-sum(table), high.total(table), list(table)))
+        best = high.adding()
+        assert (-sum(best), high.total(best), best) in within
+        assert min(within)[:2] == (-sum(best), high.total(best))
+
+
 def selftest():
     loading_selftest()
     limits_selftest()
@@ -972,6 +1107,8 @@ def selftest():
     rests_selftest()
     budgets_selftest()
     twins_selftest()
+    ranges_selftest()
+    guarded_selftest()
     assert len(SAMPLE) == 61
     # "Gap 256; tone 0 pair, noise 3, cap 15; tone 1 pair, noise 5, cap 2; tone 2 single, noise 1, cap 7; gains 1,
     # masks 100"; "the sample at 39".
@@ -983,7 +1120,8 @@ def selftest():
     assert refusal(b"") == (2, 0)
     # "Bytes in all".
     totals = {c: 1 + sum(w for _, w in ops) for c, ops in OPERANDS.items()}
-    assert totals == {1: 3, 2: 3, 3: 9, 4: 15, 5: 15, 6: 6, 7: 1, 8: 2, 9: 19, 10: 15, 11: 6, 20: 16, 21: 16, 25: 20, 26: 16, 27: 7}
+    assert totals == {1: 3, 2: 3, 3: 9, 4: 15, 5: 15, 6: 6, 7: 1, 8: 2, 9: 19, 10: 15, 11: 6, 12: 4, 20: 16, 21: 16, 25: 20, 26: 16,
+                      27: 7, 28: 5}
     # "tidying a tidy sheet returns it": the sample is tidy.
     assert tidy(SAMPLE, 61) == SAMPLE and tidy(SAMPLE, ROOM) == SAMPLE
     # "A sheet may be 32,768 bytes".
@@ -1018,9 +1156,16 @@ def selftest():
         for tone, rest in rests.items():
             own = next(i for i, c in enumerate(commands) if tone_of(c) == tone)
             commands.insert(dice.randint(own + 1, len(commands)), named(0x0b, tone, dice.choice([None, 2])) + rest.to_bytes(4, "big"))
+        # High noises anywhere after their tones, before their rests or after them.
+        noises = {tone: levels[0] for tone, (kind, *levels) in line.tones.items() if kind in (4, 5) and tone % 5}
+        highs = {tone: dice.choice([noise, dice.randint(noise, 65535)]) for tone, noise in noises.items()}
+        for tone, high in highs.items():
+            own = next(i for i, c in enumerate(commands) if tone_of(c) == tone)
+            commands.insert(dice.randint(own + 1, len(commands)), named(0x0c, tone, dice.choice([None, 2])) + high.to_bytes(2, "big"))
         sheet = start + b"".join(commands) + b"\x07"
         out = tidy(sheet, ROOM)
         assert read(out).rests == {tone: rest for tone, rest in rests.items() if rest > 0}
+        assert read(out).highs == {tone: high for tone, high in highs.items() if high > noises[tone]}
         assert out[3:].startswith(gap) and len(out) <= len(sheet)
         assert read(out).same(read(sheet)) and tidy(out, len(out)) == out and check(out) == check(sheet)
         assert set(read(out).tones) == {tone_of(c) for c in commands} - {None}

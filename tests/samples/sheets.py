@@ -3,7 +3,7 @@
 
   sheets.py SAMPLES-FOLDER       writes stdin (the calls) and stdout (what the model of the papers answers)
 """
-import random, sys
+import pathlib, random, sys
 from fractions import Fraction
 import model
 
@@ -63,8 +63,8 @@ def add(sheet, answer, tidied=None):
 
 
 def loading(word, argument, text, sheet, answer, powers):
-    """`answer` is (number, place) of a refusal, the bits of a table, (bits, moves) of a re-fit, or None where none is noted; `powers`
-    those of the tones, where they are noted."""
+    """`answer` is (number, place) of a refusal, the bits of a table, (bits, moves) of a re-fit, (bits, total bits of the plain loading) of
+    a guarded loading, or None where none is noted; `powers` those of the tones, where they are noted."""
     global LOADINGS
     LOADINGS += 1
     try:
@@ -118,6 +118,10 @@ def budgets(entries, sheet, answer=None):
 
 def most(sheet, answer=None, powers=None):
     return loading("most", None, "", sheet, answer, powers)
+
+
+def guarded(sheet, answer=None, powers=None):
+    return loading("guarded", None, "", sheet, answer, powers)
 
 
 def target(bits, sheet, answer=None, powers=None):
@@ -181,11 +185,22 @@ def at_rest(number, power):
     return model.named(0x0b, number) + power.to_bytes(4, "big")
 
 
+def high(number, noise):
+    """0C: the high noise of a tone."""
+    return model.named(0x0c, number) + noise.to_bytes(2, "big")
+
+
 def float_of(value):
     """The bits of a float of just this value."""
     bits = model.nearest(Fraction(value))
     assert model.exact(bits) == value
     return bits
+
+
+def example(name):
+    """The bytes of a sheet of examples/."""
+    path = pathlib.Path(__file__).resolve().parents[2] / "examples" / (name + ".hex")
+    return bytes.fromhex("".join(row.partition("#")[0] for row in path.read_text().split("\n")))
 
 
 def silence(word, bits):
@@ -296,8 +311,8 @@ for byte in (0, 1, 3, 4, 5, 6, 7, 9, 255):
 group("the third is not 03")
 for byte in (0, 1, 2, 4, 5, 6, 7, 255):
     add(size() + gap() + bytes([byte]) + budget() + END, (3, 6))
-group("a later one is none of 04 to 07 and 09 to 0b")
-for byte in (0, 1, 2, 3, 8, 0x0c, 0x40, 255):
+group("a later one is none of 04 to 07 and 09 to 0c")
+for byte in (0, 1, 2, 3, 8, 0x0d, 0x40, 255):
     add(head() + bytes([byte]) + END, (3, 15))
 add(head() + size() + END, (3, 15))
 add(head() + pair(1) + budget() + END, (3, 30))
@@ -483,9 +498,9 @@ def at_budget(b, sheet):
     return sheet[:6] + budget(b) + sheet[15:]
 
 
-def ends(sheet):
+def ends(sheet, loading_of=model.loading_of):
     """The powers that the adding run of a sheet passes through, up to the full table."""
-    tones = model.loading_of(at_budget(TOP, sheet))
+    tones = loading_of(at_budget(TOP, sheet))
     return [tones.total(tones.adding(bits)) for bits in range(1, sum(tones.limits) + 1)]
 
 
@@ -933,14 +948,14 @@ for first in ways:
         if first in ways[2:] or second in ways[2:]:
             add(head() + first + second + END, (6, 16 + len(first)))
 add(head() + ways[2] + single(0) + silence(0, 2) + reading(2, ONE) + ways[3] + END, (6, 71))
-group("W5: 09 and 0a first, in place of 02, in place of 03, after the end; 0c after the first three")
+group("W5: 09 and 0a first, in place of 02, in place of 03, after the end; 0d after the first three")
 for command in (reading(1, THREE, ONE), reading(1, THREE)):
     add(command + head() + END, (3, 0))
     add(size() + command + budget() + END, (3, 3))
     add(size() + gap() + command + END, (3, 6))
     add(size() + tenths(100) + command + END, (3, 5))
     add(head() + END + command, (7, 16))
-add(head() + b"\x0c" + reading(1, THREE)[1:] + END, (3, 15))
+add(head() + b"\x0d" + reading(1, THREE)[1:] + END, (3, 15))
 group("W5: the places after 08 are one less: 12, 13, 4, 6")
 add(in_tenths(100, head() + reading(1, ONE, 0) + END), (12, 20))
 add(in_tenths(100, head() + reading(1, float_of(1677671), ONE) + END), (13, 16))
@@ -1793,7 +1808,7 @@ for byte in (0x12, 0x18):
     add(size() + bytes([byte]) + gap()[1:] + budget() + END, (3, 3))
 add(size() + gap() + b"\x13" + budget()[1:] + END, (3, 6))
 add(head() + b"\x16\x00" + silence(0, 1)[1:] + END, (3, 15))
-for byte in (0x10, 0x13, 0x16, 0x17, 0x18, 0x1c, 0x1f, 0x24, 0x84, 0x94):
+for byte in (0x10, 0x13, 0x16, 0x17, 0x18, 0x1d, 0x1f, 0x24, 0x84, 0x94):
     add(head() + bytes([byte]) + END, (3, 15))
 add(head() + pair(1) + b"\x17", (3, 30))
 
@@ -1978,7 +1993,7 @@ add(wide(1023, BEHIND_ALL, n=1024), (16, 0))
 most(wide(1023, BEHIND_ALL + " 06 1f 80 00*3", n=1024), [0] * 1024, [1] * 1023 + [0])
 budgets([1024, 1025, 2048, 2052], wide(0, BEHIND_ALL, n=1024), [(0, 1024), (1, 1025), (1024, 2048), (1025, 2052)])
 budgets([1023, 1024], wide(TOP, STRAIGHT, n=1024), (16, 0))
-# The longest tidy form there is: 1,024 tones of 09 or 19 with rests, 27,136 bytes, and a map of each word, 192; 904 maps of nothing.
+# The longest tidy form without 0c: 1,024 tones of 09 or 19 with rests, 27,136 bytes, and a map of each word, 192; 904 maps of nothing.
 group("W8: 32,768 bytes: 1,024 tones of 09 and 19 with rests, maps of 32 words, and maps of nothing; a byte more; its most bits, limits")
 MAPS = " (06 ++ 00*3 01)*32"
 WHOLE = all_tones("#9 @ ++ 40400000 3f800000 01 00*7 64 #b @ == 00*3 02") + MAPS
@@ -2024,6 +2039,163 @@ for turn in range(4):
     add(least[:-1] + of_tone(at_rest(0, dice.choice((0, 1, 2, FULL))), number, width) + END, None)
     add(least[:-1] + of_tone(dice.choice(ways), number, width) + END, None)
     add(at_budget(max(0, model.number(least[7:15]) - dice.randint(0, 2)), least), None)
+
+# High noises. A pair and a single have noise 3 where none is said.
+
+group("W9: 0c of 3, 4, 65535 at noise 3, dropped where it is 3; on a single; 14 and 1c for a low tone; 256 at noise 255; 65535 at 65535")
+add(head() + pair(1) + high(1, 3) + END, (3, 1, 0), head() + pair(1) + END)
+for command in (pair(1) + high(1, 4), pair(1) + high(1, 65535), single(1) + high(1, 4)):
+    add(head() + command + END, (3, 1, 0), head() + command + END)
+add(head() + twin(pair(1)) + twin(high(1, 4)) + END, (3, 1, 0), head() + pair(1) + high(1, 4) + END)
+add(head() + pair(1, 255) + high(1, 256) + END, (3, 1, 0), head() + pair(1, 255) + high(1, 256) + END)
+add(head() + pair(1, 65535) + twin(high(1, 65535)) + END, (3, 1, 0), head() + pair(1, 65535) + END)
+group("W9, tidy: 0c after 0b, whichever came first, by either width; beside a rest of 0; an equal one beside a rest")
+for given in (rest + high(1, 4), high(1, 4) + rest, twin(high(1, 4)) + twin(rest)):
+    add(head() + pair(1) + given + END, (3, 1, 0), head() + pair(1) + rest + high(1, 4) + END)
+add(head() + single(1) + high(1, 4) + at_rest(1, 0) + END, (3, 1, 0), head() + single(1) + high(1, 4) + END)
+add(head() + single(1) + high(1, 3) + rest + END, (3, 1, 0), head() + single(1) + rest + END)
+# The cost of noise 3 and gain 2 is 2, and so is that of noise 4.
+group("W9, tidy: behind other tones and silences; of the same cost; tones of all four commands; tones 255, 256, 1,023")
+add(line(3, 39, silence(0, 1), *reversed(described), high(2, 2), high(1, 5), high(0, 6), at_rest(1, 1), at_rest(0, 2)), (3, 3, 1),
+    line(3, 39, described[0], at_rest(0, 2), high(0, 6), described[1], at_rest(1, 1), described[2], high(2, 2), silence(0, 1)))
+add(line(3, 39, pair(1, 3, 2), silence(0, 2), high(1, 4)), (3, 1, 1), line(3, 39, pair(1, 3, 2), high(1, 4), silence(0, 2)))
+add(line(4, 39, *reversed(four), high(3, 4), *behind, high(0, 4)), (4, 4, 0),
+    line(4, 39, *alternate[:2], high(0, 4), *alternate[2:], high(3, 4)))
+add(line(1024, 39, pair(1023), pair(256), high(256, 4), of_tone(single(1), 255, 2), at_rest(256, 1), high(1023, 65535),
+         of_tone(high(1, 4), 255, 2)), (1024, 3, 0),
+    line(1024, 39, single(255), high(255, 4), pair(256), at_rest(256, 1), high(256, 4), pair(1023), high(1023, 65535)))
+
+group("W9, 4 at the high noise: 2 and 0 at noise 3, by 0c and 1c, of a single, of a silenced tone; 255 at noise 256")
+for commands, place in [(pair(1) + high(1, 2), 32), (pair(1) + high(1, 0), 32), (single(1) + twin(high(1, 2)), 33),
+                        (twin(pair(1)) + high(1, 2), 33), (silence(0, 2) + pair(1) + high(1, 2), 38), (pair(1, 256) + high(1, 255), 32)]:
+    add(head() + commands + END, (4, place))
+group("W9, 4 at the tone: a tone of 09, 0a, 19, 1a, by 0c and 1c, of a noise that is larger, and of 0; after its rest")
+for way in ways[2:]:
+    add(head() + way + high(1, 65535) + END, (4, 16 + len(way)))
+    add(head() + twin(way) + twin(high(1, 0)) + END, (4, 16 + len(twin(way))))
+add(head() + ways[3] + rest + high(1, 4) + END, (4, 37))
+group("W9, 14: not described, described later; a second 0c after an equal one and after a larger, by either width, with a 0b between")
+add(head() + high(1, 4) + pair(1) + END, (14, 16))
+add(head() + pair(1) + high(0, 4) + END, (14, 31))
+for both in [(high(1, 3), high(1, 3)), (high(1, 4), high(1, 4)), (high(1, 3), twin(high(1, 4))), (twin(high(1, 4)), high(1, 4))]:
+    add(head() + pair(1) + b"".join(both) + END, (14, 31 + len(both[0])))
+add(head() + pair(1) + high(1, 3) + rest + high(1, 4) + END, (14, 41))
+group("W9: a second 0b after a 0c is 14; a tone with a 0c described again is 6; 15 by the noise, not by the high one; 16 beside a 0c")
+add(head() + pair(1) + rest + high(1, 4) + rest + END, (14, 41))
+add(head() + pair(1) + high(1, 4) + single(1) + END, (6, 35))
+add(head() + pair(1) + high(1, 9) + at_rest(1, 3) + END, (15, 36))
+add(line(3, 1, pair(1), high(1, 9), rest), (16, 0))
+group("W9: 5 before all, by 0c and 1c, also for tone 256; 14 before 4 at the high noise")
+add(head() + pair(1) + high(3, 0) + END, (5, 31))
+add(head() + reading(1, THREE) + twin(high(3, 0)) + END, (5, 31))
+add(head(256) + pair(0) + high(256, 0) + END, (5, 31))
+add(head() + pair(1) + high(0, 0) + END, (14, 31))
+add(head() + pair(1) + high(1, 4) + high(1, 0) + END, (14, 35))
+group("W9: 0c and 1c cut in the tone's number, in the high noise, behind it; cut (2) before they are judged")
+for given in (high(1, 4), twin(high(1, 4))):
+    for n in range(1, len(given) + 1):
+        add(head() + pair(1) + given[:n], (2, 30 + n))
+add(head() + reading(1, THREE) + high(3, 0)[:3], (2, 33))
+group("W9: 0c first, in place of 02, of 03, after the end; 1c after 08; the places after 08 are one less")
+add(high(1, 4) + head() + END, (3, 0))
+add(size() + high(1, 4) + budget() + END, (3, 3))
+add(size() + gap() + high(1, 4) + END, (3, 6))
+add(size() + tenths(100) + twin(high(1, 4)), (3, 5))
+add(head() + pair(1) + END + high(1, 4), (7, 31))
+add(in_tenths(100, head() + reading(1, THREE) + high(1, 4) + END), (4, 30))
+add(in_tenths(100, head() + pair(1) + high(1, 2) + END), (4, 31))
+
+# The sample line with high noises 6 on tone 0 and 2 on tone 2, by hand. There the costs are 6, 5 and 2. Powers of one bit, two, ..: 6, 18,
+# 42, 90 on tone 0; 5, 15 on tone 1; 6, 30 on tone 2. The steps in their order, and the total once each is taken:
+#   step   5  6  6 10 12 24 24  48
+#   tone   1  0  2  1  0  0  2   0
+#   total  5 11 17 27 39 63 87 135
+ranged = model.ranged
+assert ends(ranged(0), model.guarded_loading_of) == [5, 11, 17, 27, 39, 63, 87, 135]
+group("W9: the guarded loading of the sample line with high noises 6 on tone 0 and 2 on tone 2: at 3, 5, 38, 39, 134, 2^47")
+for b, bits, plain, powers in [
+        (3, [0, 0, 0], 1, [0, 0, 0]), (5, [0, 1, 0], 1, [0, 5, 0]), (38, [1, 2, 1], 5, [6, 15, 6]), (39, [2, 2, 1], 6, [18, 15, 6]),
+        (134, [3, 2, 2], 9, [42, 15, 30]), (TOP, [4, 2, 2], 10, [90, 15, 30])]:
+    guarded(ranged(b), (bits, plain), powers)
+group("W9: its other calls do not see them: most bits, target, re-fit, step, limits, budgets")
+most(ranged(39), [3, 2, 1], [21, 15, 3])
+target(10, ranged(171), [5, 2, 3])
+refit([5, 2, 3], ranged(39), ([3, 2, 1], 4), [21, 15, 3])
+step([0, 2, 3], ranged(39), ([1, 2, 2], 1))
+limited(ranged(39), "5:mask 2:cap 3:mask")
+along(about(bare), bare, ranged(0))
+group("W9: guarded without high noises, and with equal ones: the loading for most bits; in twins; nothing described")
+guarded(sample(39), ([3, 2, 1], 6), [21, 15, 3])
+guarded(ranged(38, 3, 1), ([2, 2, 1], 5), [9, 15, 3])
+guarded(twinned(ranged(39)), ([2, 2, 1], 6), [18, 15, 6])
+guarded(line(3, TOP), ([0, 0, 0], 0))
+# No bits send 3, and the first steps are 4 on tones 0 and 1; then as above.
+group("W9: guarded with rests of 2 on tone 0 and 1 on tone 1: 16 at 2; 3, 7, 39; with tone 0 silenced; with all, at 0")
+cold_ranged = [described[0], high(0, 6), at_rest(0, 2), described[1], at_rest(1, 1), described[2], high(2, 2)]
+guarded(line(3, 2, *cold_ranged), (16, 0))
+for b, bits, plain, powers in [(3, [0, 0, 0], 0, [2, 1, 0]), (7, [1, 0, 0], 2, [6, 1, 0]), (39, [2, 2, 1], 6, [18, 15, 6])]:
+    guarded(line(3, b, *cold_ranged), (bits, plain), powers)
+guarded(line(3, 39, *cold_ranged, silence(0, 1)), ([0, 2, 1], 4), [0, 15, 6])
+guarded(line(3, 0, silence(0, 7), *cold_ranged), ([0, 0, 0], 0), [0, 0, 0])
+group("W9: guarded, one pair: bits lost by the mask, none by the cap, all but the rest; a cost rounded up, 08, up to the largest cost")
+for b, commands, bits, plain, power in [
+        (TOP, [pair(0), high(0, 4)], 4, 5, 60), (TOP, [pair(0, cap=2), high(0, 4)], 2, 2, 12),
+        (TOP, [pair(0), at_rest(0, 2), high(0, 101)], 0, 5, 2), (14, [pair(0, 3, 2), high(0, 4)], 3, 3, 14),
+        (14, [pair(0, 3, 2), high(0, 5)], 2, 3, 9)]:
+    guarded(line(1, b, *commands), ([bits], plain), [power])
+guarded(in_tenths(100, line(1, 100, pair(0, mask=1000), high(0, 6))), ([1], 2), [60])
+for b, bits in [(16776704, 0), (TOP, 15)]:
+    guarded(size(1) + gap(65535) + budget(b) + pair(0, 1, 1, 15, TOP) + high(0, 65535) + END, ([bits], 15), [16776705 * (2**bits - 1)])
+group("W9: guarded, another order: pairs of noise 3 and 4, the first up to 5, up to 4; singles; beside 09 and 0a")
+for b, most_of_0, bits, plain, powers in [(4, 5, [0, 1], 1, [0, 4]), (8, 5, [0, 1], 2, [0, 4]), (4, 4, [1, 0], 1, [4, 0])]:
+    guarded(line(2, b, pair(0), pair(1, 4), high(0, most_of_0)), (bits, plain), powers)
+guarded(line(2, 21, single(0, 1), single(1, 1), high(0, 2)), ([1, 2], 3), [6, 15])
+guarded(line(3, 39, reading(0, THREE, ONE), pair(1), high(1, 6), reading(2, THREE)), ([3, 1, 2], 7), [21, 6, 9])
+group("W9: guarded: the sample line's tones as 255, 256, 257; 256 pairs of cost 1, the first 128 up to 3; the pump drive of examples/")
+guarded(line(258, 39, *(of_tone(command, 255 + number) for number, command in enumerate(described)), high(255, 6), high(257, 2)),
+        (at_end([2, 2, 1]), 6))
+guarded(wide(256, "(04 ++ 0001 0001 02 %s)*256 (0c ++ 0003)*128" % WIDE), ([0] * 128 + [2] * 64 + [1] * 64, 256))
+most(example("pump_drive"))
+guarded(example("pump_drive"))
+# The longest tidy form there is: 1,024 tones of 04 or 14 with rests and high noises, 27,904 bytes, and a map of each word, 192. Of 992 tones
+# a first step is 1, and at the high noise 4.
+group("W9: 1,024 tones with rests and high noises, 28,112 bytes: check and tidy; guarded at 100 above its rests")
+WHOLE = all_tones("#4 @ ++ 0003 0001 01 00*7 64 #b @ == 00*3 02 #c @ == 0006") + MAPS
+assert len(model.bytes_of(wide(2084, WHOLE, n=1024))) == 28112
+add(wide(2084, WHOLE, n=1024), (1024, 1024, 32), model.bytes_of(wide(2084, WHOLE, n=1024)))
+guarded(wide(2084, WHOLE, n=1024), ([0] + [1] * 25 + [0] * 998, 100))
+group("W9: guarded: refusals of the sheet, 0c's own among them, and 16")
+for more, answer in [*faults[::3], (high(0, 2) + END, (4, 38)), (high(0, 3) + high(0, 3) + END, (14, 41)), (END, (16, 0))]:
+    guarded(over + more, answer)
+
+dice = random.Random(12)
+
+
+def with_ranges(sheet):
+    """A sheet with high noises of some of its tones of 04 and 05, anywhere behind these, some equal to the noise, some by twins."""
+    commands = model.commands_of(sheet[:-1])
+    for number, (command, noise, *_) in model.read(sheet).tones.items():
+        if command in (4, 5) and dice.randint(0, 3) > 0:
+            own = next(i for i, c in enumerate(commands) if model.tone_of(c) == number)
+            given = of_tone(high(0, noise + dice.choice((0, 1, dice.randint(2, 9)))), number, dice.choice((None, 2)))
+            commands.insert(dice.randint(own + 1, len(commands)), given)
+    return b"".join(commands) + END
+
+
+def losing(n):
+    """Such a line of up to n tones whose guarded loading carries fewer bits than the plain one."""
+    while True:
+        sheet = with_ranges(with_rests(n, dice.randint(0, 150), 9, sorted({*range(5), *range(255, 258)} & {*range(n)})))
+        (bits, _, plain), _ = model.call("guarded", None, sheet, model.ROOM)
+        if bits < plain:
+            return sheet
+
+
+group("W9: four lines of up to six tones, and one of 258, with rests and high noises that cost bits: check and tidy, guarded")
+for n in (6, 6, 5, 4, 258):
+    sheet = losing(n)
+    add(sheet, model.check(sheet))
+    guarded(sheet)
 
 text = "".join(r + "\n" for r in ROWS)
 # The test program's buffer for its text (`text_buffer` of crates/samplebuffers).

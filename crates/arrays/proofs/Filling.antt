@@ -15,7 +15,7 @@ use Rattle.line.specs.Line.{undescribed, Line, gapOf, noSteps, entrySteps, step
 use Rattle.line.specs.Arrays.{arrays, ArraysOf}
 use Rattle.rows.specs.declared.Header.{Header}
 use Rattle.places.specs.Places.{entryAt}
-use Rattle.sheet.specs.Index.{Indexed}
+use Rattle.sheet.specs.Index.{IndexedLow}
 use Rattle.sheet.specs.Reading.{said}
 use Rattle.sheet.proofs.Sound.{Bytes, Sound}
 use Rattle.sheet.proofs.Uses.{size-is}
@@ -80,13 +80,13 @@ pub record FillingOf (s : List ℕ) (h : Header) (places rested maps limits cost
   pub index : SoundIndex s h places rested maps
   pub filling : Filling (index .indexed .line) limits costs doublings rests i
 
-pub filling-starts : {s places rested maps limits costs doublings rests : List ℕ} {h : Header} → Bytes s → Indexed s h places rested maps → Blank (arrays limits costs doublings rests)
+pub filling-starts : {s places rested maps limits costs doublings rests : List ℕ} {h : Header} → Bytes s → IndexedLow s h places rested maps → Blank (arrays limits costs doublings rests)
     → FillingOf s h places rested maps limits costs doublings rests 0
-filling-starts b x N = record { index = sound-index b x; filling = rw (N .limits, N .costs, N .doublings, N .rests) (filling-none (x .line)) }
+filling-starts b x N = record { index = sound-index b x; filling = rw (N .limits, N .costs, N .doublings, N .rests) (filling-none (x .index .line)) }
 
 module _ {s places rested maps limits costs doublings rests : List ℕ} {h : Header} {i : ℕ} (F : FillingOf s h places rested maps limits costs doublings rests i) where
   -- one tone more, as the code finds it at its places
-  pub filled-next : i < h .size → (q : Bool) → q ≡ silenced maps i → (x : Steps) → x ≡ entrySteps (parts (h .gap)) (entryAt s (getD places i 0) (getD rested i 0)) q
+  pub filled-next : i < h .size → (q : Bool) → q ≡ silenced maps i → (x : Steps) → x ≡ entrySteps (parts (h .gap)) (entryAt s (getD places i 0) (getD rested i 0) 0) q
       → FillingOf s h places rested maps (set limits i (x .limit .bits)) (set costs i (x .cost)) (set doublings i (x .doublings)) (set rests i (x .rest)) (i + 1)
   filled-next l q silent x e = record {
     index = F .index;

@@ -15,7 +15,7 @@ use Rattle.arrays.specs.Tones.{HoldsLineOf, LeavesTones, TonesOf}
 
 -- ---- as the code leaves them
 
-pub tones-held : {s places rested maps : List ℕ} {h : Header} (old new : Arrays) → ReadLine s h places rested maps → HoldsLineOf (said s) new → TonesOf (read.Accepted h) old new (reading s)
+pub tones-held : {s places rested highs maps : List ℕ} {h : Header} (old new : Arrays) → ReadLine s h places rested highs maps → HoldsLineOf (said s) new → TonesOf (read.Accepted h) old new (reading s)
 tones-held old new x holds = rw (x .means) (record { leaves = (ap read.Accepted (sym (x .index .header-is)), rw (x .index .means) at holds) })
 
 pub tones-refused : (A : Arrays) {m : Meaning} {q : Refusal} → m ≡ refused q → TonesOf (read.Refused q) A A m

@@ -1,12 +1,14 @@
 // The tones of a sheet as arrays of numbers, so that the runs have one path for both kinds. Each tone is decoded from its place in the
 // sheet, once.
 ghost use mathlib.Core.Path.{_≡_};
+ghost use Prim.Native.Nat.{_<_};
 ghost use Rattle.lists.specs.Lent.{before};
-ghost use Rattle.line.specs.Line.{EntryInRange, entrySteps};
+ghost use Rattle.line.specs.Tone.{InRange};
+ghost use Rattle.line.specs.Line.{entrySteps};
 ghost use Rattle.line.specs.Arrays.{arrays, arraysBefore, arraysAfter};
-ghost use Rattle.places.specs.Places.{entryAt};
+ghost use Rattle.places.specs.Places.{toneAt, entryAt};
 ghost use Rattle.sheet.specs.Reading.{said, reading};
-ghost use Rattle.sheet.specs.Index.{Indexed};
+ghost use Rattle.sheet.specs.Index.{IndexedLow};
 ghost use Rattle.arrays.specs.Tones.{Blank, HoldsLineOf, TonesOf};
 use line::Limit;
 use line::SetBy;
@@ -16,10 +18,11 @@ use sheet::Read;
 use sizes::TONES;
 use sizes::WORDS;
 
-// What is found of the tone whose command stands at a place, and whose rest's at another: nothing where no tone's does, or where it is silenced.
+// What is found of the tone whose command stands at a place, and whose rest's at another, at its own noise: nothing where no tone's does, or
+// where it is silenced.
 pub fn steps_at(s: &[u8], gap: u16, place: u16, rested: u16, silenced: bool) -> Steps
-    requires { ⌜ EntryInRange gap (entryAt (now s) place rested) ⌝ }
-    ensures { λ r. ⌜ r ≡ entrySteps gap (entryAt (before s) place rested) «silenced» ⌝ }
+    requires { ⌜ (0 < place → InRange gap (toneAt (now s) place)) ⌝ }
+    ensures { λ r. ⌜ r ≡ entrySteps gap (entryAt (before s) place rested 0) «silenced» ⌝ }
 {
     let none = Steps {
         limit: Limit {
@@ -41,7 +44,7 @@ pub fn steps_at(s: &[u8], gap: u16, place: u16, rested: u16, silenced: bool) -> 
     line::steps_of(gap, tone, rest)
 }
 
-// The arrays of the line that an index of the sheet stands for, filled from nothing.
+// The arrays of the line that an index of the sheet stands for, filled from nothing: of each tone at its own noise.
 pub fn fill_arrays(
     s: &[u8],
     header: Header,
@@ -53,7 +56,7 @@ pub fn fill_arrays(
     doublings: &mut [u8; TONES],
     rests: &mut [u32; TONES],
 )
-    requires { ⌜ Indexed (now s) header (now places) (now rested) (now maps) ⌝ }
+    requires { ⌜ IndexedLow (now s) header (now places) (now rested) (now maps) ⌝ }
     requires { ⌜ Blank (arrays (now limits) (now costs) (now doublings) (now rests)) ⌝ }
     ensures { λ r. ⌜ HoldsLineOf (said (before s)) (arraysAfter limits costs doublings rests) ⌝ }
 {
@@ -86,8 +89,9 @@ pub fn read_tones(
 {
     let mut places: [u16; TONES] = [0; TONES];
     let mut rested: [u16; TONES] = [0; TONES];
+    let mut highs: [u16; TONES] = [0; TONES];
     let mut maps: [u32; WORDS] = [0; WORDS];
-    let read = sheet::read_sheet(s, &mut places, &mut rested, &mut maps);
+    let read = sheet::read_sheet(s, &mut places, &mut rested, &mut highs, &mut maps);
     match read {
         Read::Refused(refusal) => Read::Refused(refusal),
         Read::Accepted(header) => {

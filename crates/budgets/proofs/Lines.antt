@@ -21,7 +21,7 @@ use Rattle.budgets.specs.Budgets.{totalsBytesOf, judgedWith}
 use Rattle.budgets.specs.Pass.{Passable, PassedBy}
 use Rattle.budgets.proofs.Laws.{judged-is, none-falls}
 
-module _ {s places rested maps : List ℕ} {h : Header} (x : Indexed s h places rested maps) (list : List ℕ)
+module _ {s places rested highs maps : List ℕ} {h : Header} (x : Indexed s h places rested highs maps) (list : List ℕ)
     (judged : judgedWith list (accepted (x .line)) ≡ accepted (x .line)) {A : Arrays} (holds : HoldsLineOf (said s) A) where
   held : LineInRange (x .line) × ArraysOf (x .line) A
   held = rw (x .means) at holds

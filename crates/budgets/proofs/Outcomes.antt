@@ -83,7 +83,7 @@ module _ (list : List ℕ) (l : Line) (room : ℕ) where
           f
 
 -- the line that the bytes say is the one that is indexed
-pub only-line : {s places rests maps : List ℕ} {h : Header} (x : Indexed s h places rests maps) {l : Line} → said s ≡ accepted l → (list : List ℕ)
+pub only-line : {s places rests highs maps : List ℕ} {h : Header} (x : Indexed s h places rests highs maps) {l : Line} → said s ≡ accepted l → (list : List ℕ)
     → judgedWith list (accepted (x .line)) ≡ accepted (x .line) → judgedWith list (accepted l) ≡ accepted l
 only-line x {l} e list j =
     let same : x .line ≡ l = cc (x .means) in

@@ -12,7 +12,7 @@ ghost use Rattle.line.specs.Arrays.{arrays, arraysBefore};
 ghost use Rattle.refusals.specs.Writing.{writeAnswer, writeNumbers, writeOutcome, afterWriting};
 ghost use Rattle.budgetlist.specs.Budgets.{budgetCount};
 ghost use Rattle.sheet.specs.Reading.{accepted, said};
-ghost use Rattle.sheet.specs.Index.{Indexes, Indexed};
+ghost use Rattle.sheet.specs.Index.{Indexes, IndexedLow};
 ghost use Rattle.sheet.specs.Writes.{writing};
 ghost use Rattle.budgets.specs.Budgets.{totalsBytesOf, judgedWith, budgeting};
 ghost use Rattle.budgets.specs.Pass.{Passable, PassedBy};
@@ -102,7 +102,7 @@ fn judge(
     room: usize,
 ) -> WriteAnswer
     requires { ⌜ size ≤ mostTones ⌝ }
-    ensures { λ r. ⌜ ((l : Line) (places : List ℕ) → l .size ≡ size → Indexes (before s) places (before rested) (before maps) l → r ≡ writeAnswer (writing (totalsBytesOf (before list)) (judgedWith (before list) (accepted l)) room)) ⌝ }
+    ensures { λ r. ⌜ ((l : Line) (places highs : List ℕ) → l .size ≡ size → Indexes (before s) places (before rested) highs (before maps) l → r ≡ writeAnswer (writing (totalsBytesOf (before list)) (judgedWith (before list) (accepted l)) room)) ⌝ }
 {
     let listed = budgetlist::judge(list);
     match listed {
@@ -129,7 +129,7 @@ fn put_line(
     maps: &[u32; WORDS],
     out: &mut [u8],
 )
-    requires { ⌜ Indexed (now s) header (now places) (now rested) (now maps) ⌝ }
+    requires { ⌜ IndexedLow (now s) header (now places) (now rested) (now maps) ⌝ }
     requires { ⌜ ((l : Line) → said (now s) ≡ accepted l → judgedWith (now list) (accepted l) ≡ accepted l) ⌝ }
     requires { ⌜ totalsBytes * budgetCount (now list) ≤ length (now out) ⌝ }
     ensures { λ r. ⌜ ((l : Line) → said (before s) ≡ accepted l → after out ≡ sets (before out) 0 (totalsBytesOf (before list) l)) ⌝ }
@@ -171,8 +171,9 @@ pub fn budgets(s: &[u8], list: &[u8], out: &mut [u8]) -> WriteAnswer
 {
     let mut places: [u16; TONES] = [0; TONES];
     let mut rested: [u16; TONES] = [0; TONES];
+    let mut highs: [u16; TONES] = [0; TONES];
     let mut maps: [u32; WORDS] = [0; WORDS];
-    let said = sheet::read_commands(s, &mut places, &mut rested, &mut maps);
+    let said = sheet::read_commands(s, &mut places, &mut rested, &mut highs, &mut maps);
     match said {
         Read::Refused(refusal) => WriteAnswer::Refused(refusal),
         Read::Accepted(header) => {

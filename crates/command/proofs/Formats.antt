@@ -12,8 +12,8 @@ use Rattle.bigendian.specs.Number.{number}
 use Rattle.refusals.specs.declared.Refusal.{Refusal}
 use Rattle.rows.specs.declared.Header.{Header}
 use Rattle.rows.specs.declared.Command.{Command}
-use Rattle.rows.specs.Rows.{Seen, Operand, Row, within, silence, end, tenthsRows, readingRows, restRows, twinRows, rowsOf, width, withCode, judged, operandsFrom, rowAt}
-use Rattle.command.specs.Format.{Format, formatOf, document01Tones, document01Words, document01Bytes, document01, withTenths, withReadings, withRests, today, isRefused, Covers, Covered, Within}
+use Rattle.rows.specs.Rows.{Seen, Operand, Row, within, silence, end, tenthsRows, readingRows, restRows, twinRows, highRows, rowsOf, width, withCode, judged, operandsFrom, rowAt}
+use Rattle.command.specs.Format.{Format, formatOf, document01Tones, document01Words, document01Bytes, document01, withTenths, withReadings, withRests, withTwins, withSizes, today, isRefused, Covers, Covered, Within}
 use Rattle.command.proofs.Walk.{in-within}
 
 -- what holds of the elements of two lists, one by one
@@ -107,7 +107,7 @@ wider {t} {t′} {w} {w′} tones words bytes = record {
 
     -- those after the silence command
     laterRows : (n : ℕ) → List Row
-    laterRows n = end ∷ (readingRows (suc (suc (suc n))) ++ restRows (suc (suc (suc n))) ++ twinRows (suc (suc (suc n))))
+    laterRows n = end ∷ (readingRows (suc (suc (suc n))) ++ restRows (suc (suc (suc n))) ++ twinRows (suc (suc (suc n))) ++ highRows (suc (suc (suc n))))
 
     all-same : (rs : List Row) → Paired Like rs rs
     all-same [] = tt
@@ -150,12 +150,20 @@ readings-within = record { no-longer = omega arith; covered = λ stage code. mor
 pub rests-within : Within withReadings withRests
 rests-within = record { no-longer = omega arith; covered = λ stage code. more-rows (withReadings .rows stage) (restRows stage) code }
 
--- W8: and with the twins, what that one takes; so does one with more tones, words and bytes
-abbrev pub withTwins : Format
-withTwins = formatOf document01Tones document01Words document01Bytes
-
+-- W8: and with the twins, what that one takes
 pub twins-within : Within withRests withTwins
 twins-within = record { no-longer = omega arith; covered = λ stage code. more-rows (withRests .rows stage) (twinRows stage) code }
 
-pub sizes-within : Within withTwins today
+-- W9: and with 0C and its twin, what that one takes, at document 01's sizes and at W8's
+abbrev pub smallWithHighs : Format
+smallWithHighs = formatOf document01Tones document01Words document01Bytes
+
+pub small-highs-within : Within withTwins smallWithHighs
+small-highs-within = record { no-longer = omega arith; covered = λ stage code. more-rows (withTwins .rows stage) (highRows stage) code }
+
+pub highs-within : Within withSizes today
+highs-within = record { no-longer = omega arith; covered = λ stage code. more-rows (withSizes .rows stage) (highRows stage) code }
+
+-- W8: so does one with more tones, words and bytes
+pub sizes-within : Within smallWithHighs today
 sizes-within = wider (omega arith) (omega arith) (omega arith)

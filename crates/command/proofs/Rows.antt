@@ -15,7 +15,7 @@ use Rattle.sizes.specs.Sizes.{longestSheet}
 use Rattle.refusals.specs.declared.Refusal.the-variants.{SheetTooLong, SheetEnds, CommandNotAllowed}
 use Rattle.rows.specs.declared.Header.{Header}
 use Rattle.rows.specs.declared.Command.the-variants.{Refused}
-use Rattle.rows.specs.Rows.{Known, Row, pair, single, end, levels, ratio, rest, width, withCode, rowAt, wholeRow}
+use Rattle.rows.specs.Rows.{Known, Row, pair, single, end, levels, ratio, rest, high, width, withCode, rowAt, wholeRow}
 use Rattle.rows.specs.Codes.{silenceRow, allRows, rowOf, commandBytes}
 use Rattle.command.specs.Format.{isRow, today, decoded, commandAt}
 use Rattle.command.proofs.Walk.{Each, Found, found}
@@ -53,7 +53,7 @@ found-today P each stage code = found P code (today .rows stage) (part stage)
 
 -- after the first three commands the others are allowed
 abbrev lateRows : List Row
-lateRows = pair 1 ∷ single 1 ∷ silenceRow ∷ end ∷ levels 1 ∷ ratio 1 ∷ rest 1 ∷ pair 2 ∷ single 2 ∷ levels 2 ∷ ratio 2 ∷ rest 2 ∷ []
+lateRows = pair 1 ∷ single 1 ∷ silenceRow ∷ end ∷ levels 1 ∷ ratio 1 ∷ rest 1 ∷ pair 2 ∷ single 2 ∷ levels 2 ∷ ratio 2 ∷ rest 2 ∷ high 1 ∷ high 2 ∷ []
 
 rows-late : (stage : ℕ) → 3 ≤ stage → today .rows stage ≡ lateRows
 rows-late zero l = absurd (omega arith)
@@ -67,7 +67,7 @@ one-row true r = refl
 one-row false r = refl
 
 module _ (stage code : ℕ) (late : 3 ≤ stage) where
-  -- their bytes are 4 to 7 and 9 to 11, and those of the twins
+  -- their bytes are 4 to 7 and 9 to 12, and those of the twins
   pub some-late : 4 ≤ code → code ≤ 7 → isRow (withCode (today .rows stage) code) ≡ true
   some-late low high = rw (rows-late stage late) (by (ℕ-discrete code 4) (ℕ-discrete code 5) (ℕ-discrete code 6))
     where
@@ -77,13 +77,14 @@ module _ (stage code : ℕ) (late : 3 ≤ stage) where
       by (no p) (no q) (yes e) = rw e
       by (no p) (no q) (no r) = let e : code ≡ 7 = omega arith in rw e
 
-  pub added-late : 9 ≤ code → code ≤ 11 → isRow (withCode (today .rows stage) code) ≡ true
-  added-late low high = rw (rows-late stage late) (by (ℕ-discrete code 9) (ℕ-discrete code 10))
+  pub added-late : 9 ≤ code → code ≤ 12 → isRow (withCode (today .rows stage) code) ≡ true
+  added-late low high = rw (rows-late stage late) (by (ℕ-discrete code 9) (ℕ-discrete code 10) (ℕ-discrete code 11))
     where
-      by : Dec (code ≡ 9) → Dec (code ≡ 10) → isRow (withCode lateRows code) ≡ true
-      by (yes e) q = rw e
-      by (no p) (yes e) = rw e
-      by (no p) (no q) = let e : code ≡ 11 = omega arith in rw e
+      by : Dec (code ≡ 9) → Dec (code ≡ 10) → Dec (code ≡ 11) → isRow (withCode lateRows code) ≡ true
+      by (yes e) q r = rw e
+      by (no p) (yes e) r = rw e
+      by (no p) (no q) (yes e) = rw e
+      by (no p) (no q) (no r) = let e : code ≡ 12 = omega arith in rw e
 
   pub twin-late : 20 ≤ code → code ≤ 21 → isRow (withCode (today .rows stage) code) ≡ true
   twin-late low high = rw (rows-late stage late) (by (ℕ-discrete code 20))
@@ -92,16 +93,17 @@ module _ (stage code : ℕ) (late : 3 ≤ stage) where
       by (yes e) = rw e
       by (no p) = let e : code ≡ 21 = omega arith in rw e
 
-  pub added-twin-late : 25 ≤ code → code ≤ 27 → isRow (withCode (today .rows stage) code) ≡ true
-  added-twin-late low high = rw (rows-late stage late) (by (ℕ-discrete code 25) (ℕ-discrete code 26))
+  pub added-twin-late : 25 ≤ code → code ≤ 28 → isRow (withCode (today .rows stage) code) ≡ true
+  added-twin-late low high = rw (rows-late stage late) (by (ℕ-discrete code 25) (ℕ-discrete code 26) (ℕ-discrete code 27))
     where
-      by : Dec (code ≡ 25) → Dec (code ≡ 26) → isRow (withCode lateRows code) ≡ true
-      by (yes e) q = rw e
-      by (no p) (yes e) = rw e
-      by (no p) (no q) = let e : code ≡ 27 = omega arith in rw e
+      by : Dec (code ≡ 25) → Dec (code ≡ 26) → Dec (code ≡ 27) → isRow (withCode lateRows code) ≡ true
+      by (yes e) q r = rw e
+      by (no p) (yes e) r = rw e
+      by (no p) (no q) (yes e) = rw e
+      by (no p) (no q) (no r) = let e : code ≡ 28 = omega arith in rw e
 
   -- and no other
-  pub none-late : (4 ≤ code → code ≤ 7 → ⊥) → (9 ≤ code → code ≤ 11 → ⊥) → (20 ≤ code → code ≤ 21 → ⊥) → (25 ≤ code → code ≤ 27 → ⊥)
+  pub none-late : (4 ≤ code → code ≤ 7 → ⊥) → (9 ≤ code → code ≤ 12 → ⊥) → (20 ≤ code → code ≤ 21 → ⊥) → (25 ≤ code → code ≤ 28 → ⊥)
       → isRow (withCode (today .rows stage) code) ≡ false
   none-late p q r z =
       rw (
@@ -113,11 +115,13 @@ module _ (stage code : ℕ) (late : 3 ≤ stage) where
         ne-eqb code 9 (λ e. q (omega arith) (omega arith)),
         ne-eqb code 10 (λ e. q (omega arith) (omega arith)),
         ne-eqb code 11 (λ e. q (omega arith) (omega arith)),
+        ne-eqb code 12 (λ e. q (omega arith) (omega arith)),
         ne-eqb code 20 (λ e. r (omega arith) (omega arith)),
         ne-eqb code 21 (λ e. r (omega arith) (omega arith)),
         ne-eqb code 25 (λ e. z (omega arith) (omega arith)),
         ne-eqb code 26 (λ e. z (omega arith) (omega arith)),
         ne-eqb code 27 (λ e. z (omega arith) (omega arith)),
+        ne-eqb code 28 (λ e. z (omega arith) (omega arith)),
       )
 
 -- a byte that finds a row finds its own
@@ -126,10 +130,13 @@ none-found none e = refl
 none-found (some r) e = absurd (true≢false e)
 
 pub row-found : (stage code : ℕ) → isRow (withCode (today .rows stage) code) ≡ true → withCode (today .rows stage) code ≡ some (rowOf code)
-row-found stage code h = by (withCode (today .rows stage) code) (found-today Own (search needs depth 17) stage code) h
+row-found stage code h = by (withCode (today .rows stage) code) (found-today Own each-own stage code) h
   where
     Own : Row → Type 0
     Own r = rowOf (r .code) ≡ r
+
+    each-own : Each Own allRows
+    each-own = (refl, (refl, (refl, (refl, (refl, (refl, (refl, (refl, (refl, (refl, (refl, (refl, (refl, (refl, (refl, (refl, (refl, (refl, tt))))))))))))))))))
 
     by : (o : Option Row) → Found Own code o → isRow o ≡ true → o ≡ some (rowOf code)
     by none f h = absurd (true≢false (sym h))

@@ -9,7 +9,7 @@ use native.Mathlib.Nat.{add-assoc}
 use native.Mathlib.Omega.{arith}
 use borrow.Author.Needs.{needs}
 use borrow.Author.Tests.{leb-false, ltb-false}
-use lib.Dec.{leb}
+use lib.Dec.{leb, ltb}
 use lib.ListN.{length, getD}
 use Rattle.sizes.specs.Sizes.{mostWords, longestSheet}
 use Rattle.lists.proofs.Tests.{by-test}
@@ -20,12 +20,13 @@ use Rattle.gaps.specs.Gap.{parts}
 use Rattle.line.specs.Line.{isDescribed}
 use Rattle.rows.specs.declared.Header.{Header}
 use Rattle.rows.specs.declared.Command.{Command}
-use Rattle.rows.specs.declared.Command.the-variants.{End, Refused, Head, Describe, Rest, Silence}
+use Rattle.rows.specs.declared.Command.the-variants.{End, Refused, Head, Describe, Rest, High, Silence}
 use Rattle.rows.specs.declared.Decoded.{Decoded}
-use Rattle.rows.specs.Rows.{Known, Operand, takesRest, isRestOf, Row, rest, describing, numbers, levelOperands, ratioOperands, width}
+use Rattle.rows.specs.Rows.{Known, Operand, takesRest, takesHigh, isRestOf, Row, rest, high, describing, numbers, levelOperands, ratioOperands, width}
+use Rattle.noises.specs.Noises.{entryHasNoise, entryLow}
 use Rattle.addresses.specs.Addresses.{codeOf, numberWidth, addressed, carriedAt}
 use Rattle.command.specs.Format.{today, isTooLong, commandAt}
-use Rattle.rows.specs.Codes.{ToneCode, RestCode, commandBytes, silenceRow}
+use Rattle.rows.specs.Codes.{ToneCode, RestCode, HighCode, commandBytes, silenceRow}
 use Rattle.command.proofs.Walk.{Each, first-value, passes, takes, in-within, Does, by-rows}
 
 -- its bytes are there, in a sheet that is not too long
@@ -60,6 +61,19 @@ pub record RestsTone (h : Header) (known : Known) (s : List ℕ) (at stage next 
   pub takes-one : takesRest known ≡ true
   pub fits : isRestOf (parts (h .gap)) (known .entry) (number s (carriedAt s at) 4) ≡ true
 
+-- a high noise is given to the tone that the command addresses, of the line, described by whole numbers and without a high noise before, and is no
+-- lower than its noise; its command is whole
+pub record WidensTone (h : Header) (known : Known) (s : List ℕ) (at stage next i : ℕ) : Type 0 where
+  pub there : There (length s) at next
+  pub late : 3 ≤ stage
+  pub code : HighCode (getD s at 0)
+  pub whole : at + commandBytes (getD s at 0) ≤ length s
+  pub tone : i ≡ addressed s at
+  pub of-line : i < h .size
+  pub takes-one : takesHigh known ≡ true
+  pub has-noise : entryHasNoise (known .entry) ≡ true
+  pub no-lower : entryLow (known .entry) ≤ number s (carriedAt s at) 2
+
 -- a word is one that a sheet may have, and its map names tones of the line
 pub record Silences (h : Header) (s : List ℕ) (at stage next word map : ℕ) : Type 0 where
   pub there : There (length s) at next
@@ -79,6 +93,7 @@ Said h known s at stage next End = Ends s at stage next
 Said h known s at stage next (Head h′) = Heads s at stage next
 Said h known s at stage next (Describe i) = DescribesTone h known s at stage next i
 Said h known s at stage next (Rest i) = RestsTone h known s at stage next i
+Said h known s at stage next (High i) = WidensTone h known s at stage next i
 Said h known s at stage next (Silence word map) = Silences h s at stage next word map
 
 -- the same of what is decoded
@@ -92,6 +107,7 @@ IsHead End = ⊥
 IsHead (Refused q) = ⊥
 IsHead (Describe i) = ⊥
 IsHead (Rest i) = ⊥
+IsHead (High i) = ⊥
 IsHead (Silence word map) = ⊥
 
 abbrev Heading : Row → Type 0
@@ -149,6 +165,23 @@ module _ (h : Header) (known : Known) (s : List ℕ) (at : ℕ) (short : length 
         fits = rw (own, wide) (takes (isRestOf (parts (h .gap)) (known .entry) (number s (at + 1 + w) 4)) _ _ (p .1 .0) .0);
       }
 
+  high-said : (stage w : ℕ) → 3 ≤ stage → HighCode (high w .code) → numberWidth (high w .code) ≡ w → commandBytes (high w .code) ≡ 1 + width (high w .operands)
+      → Does (SaidOf h known s at stage) h known s at (high w)
+  high-said stage w late which wide bytes own whole p =
+      let v = passes (leb (h .size) (number s (at + 1) w)) _ _ (p .0) in
+      let u = takes (takesHigh known) _ _ (v .1) in
+      record {
+        there = there (w + 2) whole;
+        late = late;
+        code = rw own which;
+        whole = rw own (omega (arith, bytes));
+        tone = tone-is own wide;
+        of-line = leb-false _ _ (v .0);
+        takes-one = u .0;
+        has-noise = takes (entryHasNoise (known .entry)) _ _ (u .1) .0;
+        no-lower = rw (own, wide) (ltb-false _ _ (passes (ltb (number s (at + 1 + w) 2) (entryLow (known .entry))) _ _ (p .1 .0) .0));
+      }
+
   -- such rows stand among the first three commands
   heads-said : (stage : ℕ) → stage < 3 → (rs : List Row) → Each Heading rs → Each (Does (SaidOf h known s at stage) h known s at) rs
   heads-said stage early [] all = tt
@@ -161,6 +194,7 @@ module _ (h : Header) (known : Known) (s : List ℕ) (at : ℕ) (short : length 
       by (Refused q) i t = absurd i
       by (Describe i) k t = absurd k
       by (Rest i) k t = absurd k
+      by (High i) k t = absurd k
       by (Silence word map) i t = absurd i
 
   all-said : (stage : ℕ) → Each (Does (SaidOf h known s at stage) h known s at) (today .rows stage)
@@ -188,7 +222,7 @@ module _ (h : Header) (known : Known) (s : List ℕ) (at : ℕ) (short : length 
                         tone-said _ 2 5 (numbers true) late (inl (inr refl)) refl refl,
                         (
                           tone-said _ 2 9 levelOperands late (inr (inl refl)) refl refl,
-                          (tone-said _ 2 10 ratioOperands late (inr (inr refl)) refl refl, (rest-said _ 2 late refl refl refl, tt)),
+                          (tone-said _ 2 10 ratioOperands late (inr (inr refl)) refl refl, (rest-said _ 2 late refl refl refl, (high-said _ 1 late refl refl refl, (high-said _ 2 late refl refl refl, tt)))),
                         ),
                       ),
                     ),

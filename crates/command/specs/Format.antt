@@ -1,5 +1,5 @@
 -- What a format allows, and the command at a place of a sheet. Document 01, 'The line sheet' and 'Why a sheet is turned down'; document 02,
--- W1, W5, W6 and W8.
+-- W1, W5, W6, W8 and W9.
 -- Assumes nothing.
 use mathlib.Core.Bool.{Bool, true, false, cond}
 use mathlib.Core.List.{List, _++_}
@@ -13,9 +13,9 @@ use Rattle.bigendian.specs.Number.{byteBase}
 use Rattle.refusals.specs.declared.Refusal.the-variants.{SheetTooLong, SheetEnds, CommandNotAllowed}
 use Rattle.rows.specs.declared.Header.{Header}
 use Rattle.rows.specs.declared.Command.{Command}
-use Rattle.rows.specs.declared.Command.the-variants.{End, Refused, Head, Describe, Rest, Silence}
+use Rattle.rows.specs.declared.Command.the-variants.{End, Refused, Head, Describe, Rest, High, Silence}
 use Rattle.rows.specs.declared.Decoded.{Decoded}
-use Rattle.rows.specs.Rows.{Known, Row, width, firstRows, tenthsRows, readingRows, restRows, rowsOf, withCode, rowAt, wholeRow}
+use Rattle.rows.specs.Rows.{Known, Row, width, firstRows, tenthsRows, readingRows, restRows, rowsToTwins, rowsOf, withCode, rowAt, wholeRow}
 
 -- The most tones, the silence words, the longest sheet, and the commands allowed after so many of the first three.
 pub record Format : Type 0 where
@@ -58,6 +58,14 @@ withReadings = smallFormat (λ tones words stage. (firstRows tones words stage +
 abbrev pub withRests : Format
 withRests = smallFormat (λ tones words stage. ((firstRows tones words stage ++ tenthsRows stage) ++ readingRows stage) ++ restRows stage)
 
+-- with the twins as well, at document 01's sizes
+abbrev pub withTwins : Format
+withTwins = smallFormat rowsToTwins
+
+-- the one before W9, with the twins and W8's sizes
+abbrev pub withSizes : Format
+withSizes = record { tones = mostTones; words = mostWords; bytes = longestSheet; rows = rowsToTwins mostTones mostWords }
+
 -- the format that is read
 abbrev pub today : Format
 today = formatOf mostTones mostWords longestSheet
@@ -97,6 +105,7 @@ isRefused End = false
 isRefused (Head h) = false
 isRefused (Describe i) = false
 isRefused (Rest i) = false
+isRefused (High i) = false
 isRefused (Silence word map) = false
 
 -- A row covers another: wherever that one takes a command, this one takes as many bytes and does the same.

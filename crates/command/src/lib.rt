@@ -1,4 +1,5 @@
-// The command at a place of a line sheet: document 01, 'The line sheet' and 'Why a sheet is turned down', and document 02, W1, W5, W6 and W8.
+// The command at a place of a line sheet: document 01, 'The line sheet' and 'Why a sheet is turned down', and document 02, W1, W5, W6, W8 and
+// W9.
 ghost use mathlib.Core.Path.{_≡_};
 ghost use Prim.Native.Nat.{_+_, _≤_};
 ghost use lib.ListN.{length};
@@ -8,7 +9,7 @@ ghost use Rattle.gaps.specs.Gap.{parts};
 ghost use Rattle.line.specs.Line.{EntryInRange};
 ghost use Rattle.places.specs.Places.{entryAt};
 ghost use Rattle.rows.specs.Rows.{Known, rowAt, wholeRow, withCode};
-ghost use Rattle.rows.specs.Codes.{knownAt, ToneCode, RestCode, rowOf, commandBytes};
+ghost use Rattle.rows.specs.Codes.{knownAt, ToneCode, RestCode, HighCode, rowOf, commandBytes};
 ghost use Rattle.command.specs.Format.{isRow, today, commandAt};
 use refusals::Refusal;
 use rows::Command;
@@ -30,7 +31,7 @@ fn is_allowed(stage: u8, code: u8) -> bool
         return code == 3;
     }
     match code {
-        4..=7 | 9..=11 | 20..=21 | 25..=27 => true,
+        4..=7 | 9..=12 | 20..=21 | 25..=28 => true,
         _ => false,
     }
 }
@@ -39,6 +40,7 @@ fn is_allowed(stage: u8, code: u8) -> bool
 fn line_operands(s: &[u8], at: usize, code: u8, header: Header) -> Command
     requires { ⌜ (ToneCode code → ⊥) ⌝ }
     requires { ⌜ (RestCode code → ⊥) ⌝ }
+    requires { ⌜ (HighCode code → ⊥) ⌝ }
     requires { ⌜ at + commandBytes code ≤ length (now s) ⌝ }
     requires { ⌜ length (now s) ≤ longestSheet ⌝ }
     ensures { λ r. ⌜ ((known : Known) → r ≡ rowAt header known (before s) at (rowOf code)) ⌝ }
@@ -52,27 +54,45 @@ fn line_operands(s: &[u8], at: usize, code: u8, header: Header) -> Command
 }
 
 // What a command does, all of whose bytes are there.
-fn operands(s: &[u8], at: usize, code: u8, header: Header, place: u16, rested: u16) -> Command
+fn operands(
+    s: &[u8],
+    at: usize,
+    code: u8,
+    header: Header,
+    place: u16,
+    rested: u16,
+    widened: u16,
+) -> Command
     requires { ⌜ at + commandBytes code ≤ length (now s) ⌝ }
     requires { ⌜ length (now s) ≤ longestSheet ⌝ }
-    requires { ⌜ EntryInRange (parts (header .gap)) (entryAt (now s) place rested) ⌝ }
-    ensures { λ r. ⌜ r ≡ rowAt header (knownAt (before s) place rested) (before s) at (rowOf code) ⌝ }
+    requires { ⌜ EntryInRange (parts (header .gap)) (entryAt (now s) place rested widened) ⌝ }
+    ensures { λ r. ⌜ r ≡ rowAt header (knownAt (before s) place rested widened) (before s) at (rowOf code) ⌝ }
 {
     let short = addresses::short_of(code);
     match short {
         4 | 5 | 9 | 10 => tonerows::tone_command(s, at, code, header, place),
-        11 => tonerows::rest_command(s, at, code, header, place, rested),
+        11 => addedrows::rest_command(s, at, code, header, place, rested),
+        12 => addedrows::high_command(s, at, code, header, place, widened),
         _ => line_operands(s, at, code, header),
     }
 }
 
 // What the command of a byte does, or why it is refused, and the place after it: 2 where its bytes are not all there, and then its operands
-// from left to right. `place` is where the tone that it addresses is described already, and `rested` where that has had a rest, or 0.
-fn row_at(s: &[u8], at: usize, code: u8, header: Header, place: u16, rested: u16) -> Decoded
+// from left to right. `place` is where the tone that it addresses is described already, `rested` where that has had a rest,
+// and `widened` where it has had a high noise, or 0.
+fn row_at(
+    s: &[u8],
+    at: usize,
+    code: u8,
+    header: Header,
+    place: u16,
+    rested: u16,
+    widened: u16,
+) -> Decoded
     requires { ⌜ at ≤ length (now s) ⌝ }
     requires { ⌜ length (now s) ≤ longestSheet ⌝ }
-    requires { ⌜ EntryInRange (parts (header .gap)) (entryAt (now s) place rested) ⌝ }
-    ensures { λ r. ⌜ r ≡ wholeRow header (knownAt (before s) place rested) (before s) at (rowOf code) ⌝ }
+    requires { ⌜ EntryInRange (parts (header .gap)) (entryAt (now s) place rested widened) ⌝ }
+    ensures { λ r. ⌜ r ≡ wholeRow header (knownAt (before s) place rested widened) (before s) at (rowOf code) ⌝ }
 {
     let ends = s.len();
     let bytes = rows::bytes_of(code);
@@ -83,16 +103,25 @@ fn row_at(s: &[u8], at: usize, code: u8, header: Header, place: u16, rested: u16
         };
     }
     Decoded {
-        command: operands(s, at, code, header, place, rested),
+        command: operands(s, at, code, header, place, rested, widened),
         next: at + bytes,
     }
 }
 
 // The command at a place, and the place after it, with the header so far. `place` is where the tone that the command addresses is
-// described already, and `rested` where that has had a rest, or 0. What was accepted there is in range, since a rest is judged by it.
-pub fn decode(s: &[u8], at: usize, stage: u8, header: Header, place: u16, rested: u16) -> Decoded
-    requires { ⌜ EntryInRange (parts (header .gap)) (entryAt (now s) place rested) ⌝ }
-    ensures { λ r. ⌜ r ≡ commandAt today header (knownAt (before s) place rested) (before s) at stage ⌝ }
+// described already, `rested` where that has had a rest,
+// and `widened` where it has had a high noise, or 0. What was accepted there is in range, since a rest is judged by it.
+pub fn decode(
+    s: &[u8],
+    at: usize,
+    stage: u8,
+    header: Header,
+    place: u16,
+    rested: u16,
+    widened: u16,
+) -> Decoded
+    requires { ⌜ EntryInRange (parts (header .gap)) (entryAt (now s) place rested widened) ⌝ }
+    ensures { λ r. ⌜ r ≡ commandAt today header (knownAt (before s) place rested widened) (before s) at stage ⌝ }
 {
     let length = s.len();
     if SHEET_BYTES < length {
@@ -114,5 +143,5 @@ pub fn decode(s: &[u8], at: usize, stage: u8, header: Header, place: u16, rested
             next: at,
         };
     }
-    row_at(s, at, code, header, place, rested)
+    row_at(s, at, code, header, place, rested, widened)
 }

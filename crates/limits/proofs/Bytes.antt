@@ -20,7 +20,7 @@ use Rattle.line.proofs.Arrays.{limit-same}
 use Rattle.rows.specs.declared.Header.{Header}
 use Rattle.places.specs.Places.{entryAt}
 use Rattle.sheet.specs.Reading.{accepted, said}
-use Rattle.sheet.specs.Index.{Indexed}
+use Rattle.sheet.specs.Index.{IndexedLow}
 use Rattle.sheet.proofs.Sound.{Bytes}
 use Rattle.sheet.proofs.Uses.{size-is}
 use Rattle.arrays.proofs.Indexed.{SoundIndex, sound-index, steps-found}
@@ -48,15 +48,15 @@ pub record WritingOf (s : List ℕ) (h : Header) (places rests maps out₀ out :
   pub inside : i ≤ h .size
   pub entries : Written (limitEntry (index .indexed .line)) out₀ 0 i out (limitBytesATone * i)
 
-pub writing-starts : {s places rests maps : List ℕ} {h : Header} → Bytes s → Indexed s h places rests maps → (out : List ℕ) → WritingOf s h places rests maps out out 0
-writing-starts b x out = record { index = sound-index b x; inside = omega arith; entries = written-none (limitEntry (x .line)) out 0 }
+pub writing-starts : {s places rests maps : List ℕ} {h : Header} → Bytes s → IndexedLow s h places rests maps → (out : List ℕ) → WritingOf s h places rests maps out out 0
+writing-starts b x out = record { index = sound-index b x; inside = omega arith; entries = written-none (limitEntry (x .index .line)) out 0 }
 
 module _ {s places rests maps out₀ out : List ℕ} {h : Header} {i : ℕ} (W : WritingOf s h places rests maps out₀ out i) where
   abbrev line : Line
   line = W .index .indexed .line
 
   -- one tone more, as the code finds it at its places
-  pub written-limit : i < h .size → (q : Bool) → q ≡ silenced maps i → (x : Steps) → x ≡ entrySteps (parts (h .gap)) (entryAt s (getD places i 0) (getD rests i 0)) q
+  pub written-limit : i < h .size → (q : Bool) → q ≡ silenced maps i → (x : Steps) → x ≡ entrySteps (parts (h .gap)) (entryAt s (getD places i 0) (getD rests i 0) 0) q
       → {out′ : List ℕ} → out′ ≡ sets out (limitBytesATone * i) (x .limit .bits ∷ setByNumber (x .limit .by) ∷ [])
       → WritingOf s h places rests maps out₀ out′ (i + 1)
   written-limit l q silent x e stored = record {

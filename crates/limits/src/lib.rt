@@ -9,7 +9,7 @@ ghost use Rattle.lists.specs.Lent.{before, after};
 ghost use Rattle.line.specs.Line.{Line};
 ghost use Rattle.refusals.specs.Writing.{writeAnswer, writeNumbers, writeOutcome, afterWriting};
 ghost use Rattle.sheet.specs.Reading.{accepted, said, reading};
-ghost use Rattle.sheet.specs.Index.{Indexed};
+ghost use Rattle.sheet.specs.Index.{IndexedLow};
 ghost use Rattle.limits.specs.Limits.{setByNumber, setByOf, limitBytes, limiting};
 use line::Limit;
 use line::SetBy;
@@ -63,7 +63,7 @@ fn put_limits(
     rests: &[u16; TONES],
     maps: &[u32; WORDS],
 )
-    requires { ⌜ Indexed (now s) header (now places) (now rests) (now maps) ⌝ }
+    requires { ⌜ IndexedLow (now s) header (now places) (now rests) (now maps) ⌝ }
     requires { ⌜ limitBytesATone * header .size ≤ length (now out) ⌝ }
     ensures { λ r. ⌜ ((l : Line) → said (before s) ≡ accepted l → after out ≡ sets (before out) 0 (limitBytes l)) ⌝ }
 {
@@ -88,8 +88,9 @@ pub fn limits(s: &[u8], out: &mut [u8]) -> WriteAnswer
 {
     let mut places: [u16; TONES] = [0; TONES];
     let mut rests: [u16; TONES] = [0; TONES];
+    let mut highs: [u16; TONES] = [0; TONES];
     let mut maps: [u32; WORDS] = [0; WORDS];
-    let read = sheet::read_sheet(s, &mut places, &mut rests, &mut maps);
+    let read = sheet::read_sheet(s, &mut places, &mut rests, &mut highs, &mut maps);
     match read {
         Read::Refused(refusal) => WriteAnswer::Refused(refusal),
         Read::Accepted(header) => {

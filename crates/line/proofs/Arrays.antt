@@ -37,20 +37,20 @@ none-small = record { steps-rise = λ h. absurd (omega arith); cost-high = omega
 small : (g : ℕ) (e : Entry) (q : Bool) → EntryInRange g e → Small (entrySteps g e q)
 small g e true I = none-small
 small g undescribed false I = none-small
-small g (described t r) false I =
+small g (described t a) false I =
     let w = cost g t in
     record {
-      steps-rise = λ h. record { doubles = doublings-low (t .kind); rest-low = I .1 .below-cost };
+      steps-rise = λ h. record { doubles = doublings-low (t .kind); rest-low = I .1 .rest .below-cost };
       cost-high = omega (arith, I .0 .cost .high);
       shift-high = shift-at-most t (limit t w) (limit-is t w .at-most) (I .0 .bounds);
-      rest-high = omega (arith, I .1 .below-cost, I .0 .cost .high);
+      rest-high = omega (arith, I .1 .rest .below-cost, I .0 .cost .high);
     }
 
 -- the limit with what set it
 pub limit-same : (g : ℕ) (e : Entry) (q : Bool) → entrySteps g e q .limit ≡ record { bits = entryLimit g e q; by = entrySetBy g e q }
 limit-same g e true = refl
 limit-same g undescribed false = refl
-limit-same g (described t r) false = refl
+limit-same g (described t a) false = refl
 
 module _ (l : Line) (I : LineInRange l) (A : Arrays) (h : ArraysOf l A) where
   pub line-arrays-in-range : ArraysInRange (l .size) A

@@ -24,13 +24,13 @@ use Rattle.line.proofs.Growth.{power-is, power-grows, power-zero, power
 rest-low : (g : ℕ) (e : Entry) (q : Bool) → EntryInRange g e → entryPower g e q 0 ≤ entryPower g e q 1
 rest-low g undescribed true I = omega arith
 rest-low g undescribed false I = omega arith
-rest-low g (described t r) true I = omega arith
-rest-low g (described t r) false I = omega (arith, I .1 .below-cost, power-one t (cost g t))
+rest-low g (described t a) true I = omega arith
+rest-low g (described t a) false I = omega (arith, I .1 .rest .below-cost, power-one t (cost g t))
 
 entry-grows : (g : ℕ) (e : Entry) (q : Bool) (b : ℕ) → EntryInRange g e → entryPower g e q b ≤ entryPower g e q (suc b)
 entry-grows g e q zero I = rest-low g e q I
 entry-grows g undescribed q (suc b) I = omega arith
-entry-grows g (described t r) q (suc b) I = power-grows t (cost g t) (suc b)
+entry-grows g (described t a) q (suc b) I = power-grows t (cost g t) (suc b)
 
 -- the power of b bits by the code's account of a tone
 abbrev powerBy : Steps → (b : ℕ) → ℕ
@@ -42,8 +42,8 @@ entry-power g e true zero h = refl
 entry-power g e true (suc b) h = absurd (omega arith)
 entry-power g undescribed false zero h = refl
 entry-power g undescribed false (suc b) h = absurd (omega arith)
-entry-power g (described t r) false zero h = refl
-entry-power g (described t r) false (suc b) h = power-is t (cost g t) (suc b)
+entry-power g (described t a) false zero h = refl
+entry-power g (described t a) false (suc b) h = power-is t (cost g t) (suc b)
 
 -- the step at b bits by the code's account of a tone
 abbrev stepBy : Steps → (b : ℕ) → ℕ
@@ -59,10 +59,10 @@ entry-rise : (g : ℕ) (e : Entry) (q : Bool) (b : ℕ) → EntryInRange g e →
     → stepBy (entrySteps g e q) b < stepBy (entrySteps g e q) (suc b)
 entry-rise g e true b I h = omega arith
 entry-rise g undescribed false b I h = omega arith
-entry-rise g (described t r) false zero I h =
+entry-rise g (described t a) false zero I h =
     let w = cost g t in
     rw (← power-is t w 1, ← power-is t w 2) (omega (arith, step-rises t w 0 (I .0 .cost .low), power-zero t w))
-entry-rise g (described t r) false (suc b) I h =
+entry-rise g (described t a) false (suc b) I h =
     let w = cost g t in
     rw (← power-is t w (suc b), ← power-is t w (suc (suc b)), ← power-is t w (suc (suc (suc b)))) (step-rises t w (suc b) (I .0 .cost .low))
 

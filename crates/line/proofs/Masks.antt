@@ -17,17 +17,17 @@ within-mask g e true zero I h = omega arith
 within-mask g e true (suc b) I h = absurd (omega arith)
 within-mask g undescribed false zero I h = omega arith
 within-mask g undescribed false (suc b) I h = absurd (omega arith)
-within-mask g (described t r) false zero I h = I .1 .within-mask
-within-mask g (described t r) false (suc b) I h = le-trans (power-mono t (cost g t) h) (limit-is t (cost g t) .passes)
+within-mask g (described t a) false zero I h = I .1 .rest .within-mask
+within-mask g (described t a) false (suc b) I h = le-trans (power-mono t (cost g t) h) (limit-is t (cost g t) .passes)
 
 mask-high : (g : ℕ) (e : Entry) → EntryInRange g e → entryMask e ≤ 2 ^ 47
 mask-high g undescribed I = omega arith
-mask-high g (described t r) I = I .0 .bounds .mask-high
+mask-high g (described t a) I = I .0 .bounds .mask-high
 
 limit-high : (g : ℕ) (e : Entry) (q : Bool) → EntryInRange g e → entryLimit g e q ≤ 15
 limit-high g e true I = omega arith
 limit-high g undescribed false I = omega arith
-limit-high g (described t r) false I = le-trans (limit-is t (cost g t) .at-most) (cap-high (I .0 .bounds))
+limit-high g (described t a) false I = le-trans (limit-is t (cost g t) .at-most) (cap-high (I .0 .bounds))
 
 module _ (l : Line) (I : LineInRange l) where
   -- the power of one tone within its limit

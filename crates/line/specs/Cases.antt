@@ -22,7 +22,7 @@ use Rattle.line.specs.declared.SetBy.{SetBy}
 use Rattle.line.specs.declared.SetBy.the-variants.{Cap, Mask}
 use Rattle.line.specs.Tone.{cost, limit, setBy}
 use Rattle.line.specs.Tries.{tries}
-use Rattle.line.specs.Line.{described, Line, tones, setByAt}
+use Rattle.line.specs.Line.{noneAdded, Entry, described, withRest, Line, tones, setByAt}
 
 abbrev pub tone : (Numbers → Kind) → (noise gain cap mask : ℕ) → Tone
 tone kind noise gain cap mask = record { kind = kind (record { noise = noise; gain = gain; cap = cap; mask = mask }) }
@@ -37,6 +37,10 @@ ratio bits = Ratio (floatOf bits)
 abbrev pub readTone : Reading → Tone
 readTone r = record { kind = Read (record { reading = r; cap = 0; mask = 0 }) }
 
+-- a described tone with a rest
+abbrev pub resting : Tone → (rest : ℕ) → Entry
+resting t rest = withRest rest (described t (noneAdded t))
+
 -- 'Gap 256; tone 0 pair, noise 3, cap 15; tone 1 pair, noise 5, cap 2; tone 2 single, noise 1, cap 7; gains 1, masks 100.'
 -- With the rests of its tones, by number.
 abbrev pub sample : (rests : List ℕ) → (budget : ℕ) → Line
@@ -45,9 +49,9 @@ sample rests budget = record {
   gap = Parts 256;
   budget = budget;
   entries =
-      described (tone Pair 3 1 15 100) (getD rests 0 0)
-      ∷ described (tone Pair 5 1 2 100) (getD rests 1 0)
-      ∷ described (tone Single 1 1 7 100) (getD rests 2 0)
+      resting (tone Pair 3 1 15 100) (getD rests 0 0)
+      ∷ resting (tone Pair 5 1 2 100) (getD rests 1 0)
+      ∷ resting (tone Single 1 1 7 100) (getD rests 2 0)
       ∷ [];
   maps = 0 ∷ [];
 }

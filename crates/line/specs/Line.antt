@@ -14,21 +14,35 @@ use Rattle.line.specs.declared.Tone.{Tone}
 use Rattle.line.specs.declared.SetBy.{SetBy}
 use Rattle.line.specs.declared.SetBy.the-variants.{Silent}
 use Rattle.line.specs.declared.Steps.{Steps}
-use Rattle.line.specs.Tone.{boundsOf, InRange, RestInRange, cost, power, limit, setBy, limitOf, doublings}
+use Rattle.line.specs.Tone.{boundsOf, noiseOf, InRange, RestInRange, HighInRange, cost, power, limit, setBy, limitOf, doublings}
 
--- a tone of a line: not described, or described, with what it carries and its rest; W6: 'the rest, 0 where none is given'
+-- What later commands add to a described tone. W6: 'the rest, 0 where none is given'. W9: the high noise, which is the noise where none is
+-- given, since an equal one is dropped by tidying and so is no part of the line.
+pub record Added : Type 0 where
+  pub rest : ℕ
+  pub high : ℕ
+
+-- nothing is added yet
+abbrev pub noneAdded : Tone → Added
+noneAdded t = record { rest = 0; high = noiseOf (t .kind) }
+
+-- a tone of a line: not described, or described, with what it carries and what is added
 pub data Entry : Type 0 where
   undescribed : Entry
-  described : Tone → (rest : ℕ) → Entry
+  described : Tone → Added → Entry
 
 abbrev pub isDescribed : Entry → Bool
 isDescribed undescribed = false
-isDescribed (described t r) = true
+isDescribed (described t a) = true
 
--- a described tone with another rest
+-- a described tone with another rest, and with another high noise
 abbrev pub withRest : (rest : ℕ) → Entry → Entry
 withRest rest undescribed = undescribed
-withRest rest (described t r) = described t rest
+withRest rest (described t a) = described t (record { rest = rest; high = a .high })
+
+abbrev pub withHigh : (high : ℕ) → Entry → Entry
+withHigh high undescribed = undescribed
+withHigh high (described t a) = described t (record { rest = a .rest; high = high })
 
 -- 'A line is N, gap, budget, the described tones with what they carry, and the set of silenced tones': an entry for each of the N tones,
 -- and the silence maps of as many words as the N tones take. W1: which command gave the gap 'belongs to the line'.
@@ -51,30 +65,30 @@ entryOf l i = getD (l .entries) i undescribed
 abbrev pub entryLimit : (g : ℕ) → Entry → (silenced : Bool) → ℕ
 entryLimit g e true = 0
 entryLimit g undescribed false = 0
-entryLimit g (described t r) false = limit t (cost g t)
+entryLimit g (described t a) false = limit t (cost g t)
 
 -- W3, what set it: 'every other tone is silent'
 abbrev pub entrySetBy : (g : ℕ) → Entry → (silenced : Bool) → SetBy
 entrySetBy g e true = Silent
 entrySetBy g undescribed false = Silent
-entrySetBy g (described t r) false = setBy t (cost g t)
+entrySetBy g (described t a) false = setBy t (cost g t)
 
 -- W6: 'a tone that carries no bits .. sends its rest power', 'A silenced tone sends nothing'; and one not described has none
 abbrev pub entryRest : Entry → (silenced : Bool) → ℕ
 entryRest e true = 0
 entryRest undescribed false = 0
-entryRest (described t r) false = r
+entryRest (described t a) false = a .rest
 
 -- the power of b bits; W6: 'The power at no bits becomes the rest'. A tone not described carries none.
 abbrev pub entryPower : (g : ℕ) → Entry → (silenced : Bool) → (b : ℕ) → ℕ
 entryPower g e q zero = entryRest e q
 entryPower g undescribed q (suc b) = 0
-entryPower g (described t r) q (suc b) = power t (cost g t) (suc b)
+entryPower g (described t a) q (suc b) = power t (cost g t) (suc b)
 
 -- the mask of a tone, 0 where none is described
 abbrev pub entryMask : Entry → ℕ
 entryMask undescribed = 0
-entryMask (described t r) = boundsOf t .mask
+entryMask (described t a) = boundsOf t .mask
 
 -- The tones of a line, with the limits and powers that the runs go by.
 abbrev pub tones : Line → Tones
@@ -96,10 +110,15 @@ restOf l i = entryRest (entryOf l i) (silenced (l .maps) i)
 abbrev pub restTotal : Line → ℕ
 restTotal l = sum (l .size) (restOf l)
 
--- the ranges of what an entry carries, at the line's gap; W6, of its rest what 15 leaves
+-- the ranges of what is added: W6, of the rest what 15 leaves; W9, of the high noise what 4 leaves
+pub record AddedInRange (g : ℕ) (t : Tone) (a : Added) : Type 0 where
+  pub rest : RestInRange g t (a .rest)
+  pub high : HighInRange (t .kind) (a .high)
+
+-- the ranges of what an entry carries, at the line's gap
 abbrev pub EntryInRange : (g : ℕ) → Entry → Type 0
 EntryInRange g undescribed = Unit {0}
-EntryInRange g (described t r) = InRange g t × RestInRange g t r
+EntryInRange g (described t a) = InRange g t × AddedInRange g t a
 
 -- the ranges of a line: N from 1 to the most tones, the gap in its unit's range, the budget from 0 to 2^47, and those of each tone
 pub record LineInRange (l : Line) : Type 0 where
@@ -120,7 +139,7 @@ stepsOf g t rest = record { limit = limitOf t (cost g t); cost = cost g t; doubl
 abbrev pub entrySteps : (g : ℕ) → Entry → (silenced : Bool) → Steps
 entrySteps g e true = noSteps
 entrySteps g undescribed false = noSteps
-entrySteps g (described t r) false = stepsOf g t r
+entrySteps g (described t a) false = stepsOf g t (a .rest)
 
 -- that of tone i of a line
 abbrev pub stepsAt : Line → (i : ℕ) → Steps

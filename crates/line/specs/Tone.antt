@@ -1,7 +1,8 @@
--- One tone. Document 01, 'Cost, power and limit of a tone'; document 02, W3, W5 and W6.
+-- One tone. Document 01, 'Cost, power and limit of a tone'; document 02, W3, W5, W6 and W9.
 -- Assumes nothing.
 use mathlib.Core.Bool.{Bool, true, false, _&&_, cond}
 use mathlib.Core.Logic.{ite}
+use mathlib.Core.Path.{_≡_}
 use Prim.Native.Nat.{ℕ, zero, suc, _-_, _*_, _^_, _≤_, _<_}
 use native.Mathlib.Decide.{decLe}
 use lib.Dec.{leb, ltb}
@@ -95,6 +96,28 @@ isRest g t rest = isBelow (cost g t) (boundsOf t .mask) rest
 pub record RestInRange (g : ℕ) (t : Tone) (rest : ℕ) : Type 0 where
   pub below-cost : rest < cost g t
   pub within-mask : rest ≤ boundsOf t .mask
+
+-- W9: 'only for tones of 04, 05 or their twins': the noise of a tone with whole numbers. One with a reading has no such number, and 0 stands
+-- for it.
+abbrev pub noiseOf : Kind → ℕ
+noiseOf (Pair n) = n .noise
+noiseOf (Single n) = n .noise
+noiseOf (Read n) = 0
+
+abbrev pub hasNoise : Kind → Bool
+hasNoise (Pair n) = true
+hasNoise (Single n) = true
+hasNoise (Read n) = false
+
+-- W9, the high noise: '2 bytes, at least the tone's noise'
+pub record NoiseRange (noise high : ℕ) : Type 0 where
+  pub at-least : noise ≤ high
+  pub two-bytes : high ≤ 65535
+
+abbrev pub HighInRange : Kind → (high : ℕ) → Type 0
+HighInRange (Pair n) high = NoiseRange (n .noise) high
+HighInRange (Single n) high = NoiseRange (n .noise) high
+HighInRange (Read n) high = high ≡ 0
 
 -- 'Power of b bits: pair w × (2^b − 1), single w × (4^b − 1). No bits, no power.' W5: 'Such a tone is a pair tone to all the loadings.' W6 puts the
 -- rest in the place of the power at no bits: `entryPower` of specs/Line.antt.

@@ -28,7 +28,11 @@ use Rattle.tidyform.specs.Tidy.{tidy}
 use Rattle.tidyform.proofs.Tidied.{tidy-keeps}
 use Rattle.tidy.specs.Tidying.{tidying}
 use Rattle.loader.specs.Calls.{loadMost, loadTarget, refit, oneStep, refitBy}
-use Rattle.loader.specs.Claims.{MostBits, MostBitsOn, SameLoading, Demand3On, TargetMet, TargetOn, TidyOn}
+use Rattle.noises.specs.Noises.{atHigh}
+use Rattle.noises.proofs.Guarded.{best-guarded}
+use Rattle.guarded.specs.declared.GuardedLoad.{GuardedLoad}
+use Rattle.guarded.specs.Guarded.{guarding, plainBits, guardedAnswer}
+use Rattle.loader.specs.Claims.{MostBits, MostBitsOn, SameLoading, Demand3On, TargetMet, TargetOn, GuardedMet, TidyOn}
 use Rattle.loader.proofs.Outcomes.{whole, single}
 
 -- an accepted sheet is loaded for most bits where its table has room
@@ -85,6 +89,19 @@ module _ (sheet : List ℕ) (b : Bytes sheet) (l : Line) (e : reading sheet ≡ 
     answers = simp (e, le-ltb (length old) (bytesATone * l .size) h) at a;
     carries = line-set-bits l in-range rests-fit target;
   }
+
+-- W9: what holds of the guarded loading of an accepted sheet whose table has room
+pub guarded-met : (sheet : List ℕ) (b : Bytes sheet) (l : Line) (e : reading sheet ≡ accepted l) (old new : List ℕ) (h : bytesATone * l .size ≤ length old) {r : GuardedLoad}
+    → r ≡ guardedAnswer (plainBits (reading sheet)) (guarding (reading sheet) (length old)) → new ≡ afterLoading (guarding (reading sheet) (length old)) old → GuardedMet l r new
+unfolding guarding mostOn
+guarded-met sheet b l e old new h a n = record {
+  answers = a ∙ rw (is, e);
+  front = ap (take (bytesATone * l .size)) (n ∙ ap (λ (x : Loading). afterLoading x old) is) ∙ take-at _ _ _ (length-entries (tones (atHigh l)) (mostBits (tones (atHigh l)) (l .budget) .table) (l .size));
+  best = best-guarded l (accepted-sound sheet b l e .in-range) (accepted-fits sheet l e);
+}
+  where
+    is : guarding (reading sheet) (length old) ≡ loaded (tones (atHigh l)) (mostBits (tones (atHigh l)) (l .budget))
+    is = simp (e, le-ltb (length old) (bytesATone * l .size) h)
 
 -- ---- what each call has to show: its answer, that in the paper's numbers, the buffer, and its promise
 

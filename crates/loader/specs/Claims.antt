@@ -1,5 +1,5 @@
 -- What is promised of the calls besides their outcomes: demand 3 of the bytes and totals at exit, most bits, least power at a set number of
--- bits, the totals for many budgets, the tidy form; and what the technician checks every morning.
+-- bits, the totals for many budgets, the guarded loading, the tidy form; and what the technician checks every morning.
 -- Assumes nothing.
 use mathlib.Core.Bool.{true}
 use mathlib.Core.List.{List}
@@ -22,6 +22,10 @@ use Rattle.loadings.specs.Loads.{onTarget, loadAnswer, afterLoading}
 use Rattle.budgetlist.specs.Budgets.{budgetOf, budgetCount}
 use Rattle.sheet.specs.Reading.{accepted, said, reading}
 use Rattle.budgets.specs.Budgets.{withBudget, judgedWith}
+use Rattle.noises.specs.Noises.{atHigh}
+use Rattle.noises.specs.Claims.{BestGuarded}
+use Rattle.guarded.specs.declared.GuardedLoad.{GuardedLoad}
+use Rattle.guarded.specs.declared.GuardedLoad.the-variants as guard
 use Rattle.tidyform.specs.Tidy.{tidy}
 use Rattle.tidyform.specs.Claims.{TidyKeeps}
 use Rattle.loader.specs.Calls.{loadMost, refit}
@@ -86,6 +90,17 @@ abbrev pub BudgetsOn : (sheet list old new : List ℕ) → Type 0
 BudgetsOn sheet list old new =
     (l : Line) → judgedWith list (said sheet) ≡ accepted l → totalsBytes * budgetCount list ≤ length old → (k : ℕ) → k < budgetCount list
     → BudgetMet l (budgetOf list k) new k
+
+-- W9, the guarded loading: answers and table are those of the loading for most bits at the high noises, with the plain loading's total bits; and
+-- 'For every choice of noises inside the ranges its table keeps limits and budget, and no table with that property carries more bits, or as many
+-- with less power at the high noises.'
+pub record GuardedMet (l : Line) (r : GuardedLoad) (new : List ℕ) : Type 0 where
+  pub answers : r ≡ guard.Totals (totalBits (tones (atHigh l)) (mostBits (tones (atHigh l)) (l .budget) .table)) (totalPower (tones (atHigh l)) (mostBits (tones (atHigh l)) (l .budget) .table)) (totalBits (tones l) (mostBits (tones l) (l .budget) .table))
+  pub front : take (bytesATone * l .size) new ≡ tableBytes (tones (atHigh l)) (mostBits (tones (atHigh l)) (l .budget) .table)
+  pub best : BestGuarded l (mostBits (tones (atHigh l)) (l .budget) .table)
+
+abbrev pub GuardedOn : (sheet : List ℕ) → GuardedLoad → (old new : List ℕ) → Type 0
+GuardedOn sheet r old new = Loads sheet old (λ l. GuardedMet l r new)
 
 -- Tidying: what was written reads as the same line and tidies to itself.
 pub record WritesTidy (sheet : List ℕ) (l : Line) (new : List ℕ) : Type 0 where

@@ -1,4 +1,4 @@
-// The library: every public call, on bytes. Document 01; document 02, W3 and W7.
+// The library: every public call, on bytes. Document 01; document 02, W3, W7 and W9.
 ghost use mathlib.Core.Path.{_≡_};
 ghost use lib.ListN.{length};
 ghost use Rattle.lists.specs.Lent.{before, after};
@@ -9,9 +9,11 @@ ghost use Rattle.sheet.specs.Reading.{reading};
 ghost use Rattle.sheet.specs.Check.{checking, checkNumbers, checkOutcome};
 ghost use Rattle.limits.specs.Limits.{limiting};
 ghost use Rattle.budgets.specs.Budgets.{budgeting};
+ghost use Rattle.guarded.specs.Guarded.{guarding, plainBits, guardedAnswer, guardedNumbers, guardedOutcome};
 ghost use Rattle.tidy.specs.Tidying.{tidying, tidyAnswer, tidyNumbers, tidyOutcome};
 ghost use Rattle.loader.specs.Calls.{loadMost, loadTarget, refit, oneStep, refitBy};
-ghost use Rattle.loader.specs.Claims.{MostBitsOn, TargetOn, Demand3On, BudgetsOn, TidyOn};
+ghost use Rattle.loader.specs.Claims.{MostBitsOn, TargetOn, Demand3On, BudgetsOn, GuardedOn, TidyOn};
+use guarded::GuardedLoad;
 use loadings::Loaded;
 use loadings::Refitted;
 use refusals::WriteAnswer;
@@ -145,6 +147,17 @@ pub fn budgets(s: &[u8], list: &[u8], out: &mut [u8]) -> WriteAnswer
     ensures each { λ r. ⌜ BudgetsOn (before s) (before list) (before out) (after out) ⌝ }
 {
     budgets::budgets(s, list, out)
+}
+
+// Loads a sheet for most bits at every high noise; of its table no choice of noises inside their ranges breaks the limits or the budget. It
+// answers the total bits of the plain loading too.
+pub fn guarded(s: &[u8], table: &mut [u8]) -> GuardedLoad
+    ensures answer { λ r. ⌜ r ≡ guardedAnswer (plainBits (reading (before s))) (guarding (reading (before s)) (length (before table))) ⌝ }
+    ensures numbers { λ r. ⌜ guardedNumbers r ≡ guardedOutcome (plainBits (reading (before s))) (guarding (reading (before s)) (length (before table))) ⌝ }
+    ensures bytes { λ r. ⌜ after table ≡ afterLoading (guarding (reading (before s)) (length (before table))) (before table) ⌝ }
+    ensures guards { λ r. ⌜ GuardedOn (before s) r (before table) (after table) ⌝ }
+{
+    guarded::guarded(s, table)
 }
 
 // Writes the tidy form of a sheet.

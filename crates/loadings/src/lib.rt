@@ -1,6 +1,9 @@
 // The loadings and the re-fit of a line's tones into a lent buffer, with refusals 8 to 11. Document 01, 'The loading runs' and 'Why a sheet
 // is turned down'.
+ghost use mathlib.Core.Path.{_≡_};
 ghost use Rattle.lists.specs.Lent.{before, after};
+ghost use Rattle.steps.specs.Tones.{totalBits};
+ghost use Rattle.steps.specs.Runs.{mostBits};
 ghost use Rattle.line.specs.Arrays.{arrays, arraysBefore};
 ghost use Rattle.loadings.specs.Loads.{mostOn, targetOn, SomeTones, ForTones, LoadsAs};
 ghost use Rattle.loadings.specs.Refits.{RefitsTones};
@@ -58,6 +61,36 @@ pub fn most(
     tables::put_table(table, count, costs, doublings, rests, &bits);
     let totals = running.totals;
     Loaded::Totals(totals.bits, totals.power)
+}
+
+// The total bits of the loading for most bits, which is not written.
+pub fn most_bits(
+    size: u16,
+    budget: u64,
+    limits: &[u8; TONES],
+    costs: &[u32; TONES],
+    doublings: &[u8; TONES],
+    rests: &[u32; TONES],
+) -> u32
+    requires { ⌜ SomeTones size budget (arrays (now limits) (now costs) (now doublings) (now rests)) ⌝ }
+    ensures { λ r. ⌜ ForTones size budget (arraysBefore limits costs doublings rests) (λ T. r ≡ totalBits T (mostBits T budget .table)) ⌝ }
+{
+    let count = size as usize;
+    let start = starts::no_bits(count, rests);
+    let ended = wholeruns::run(
+        start,
+        Rule::Add,
+        MOST_BITS,
+        budget,
+        count,
+        limits,
+        costs,
+        doublings,
+        rests,
+    );
+    let running = ended.running;
+    let totals = running.totals;
+    totals.bits
 }
 
 // Loads a set number of bits.

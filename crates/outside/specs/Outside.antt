@@ -11,6 +11,8 @@ use Rattle.refusals.specs.Writing.{writeOutcome, afterWriting}
 use Rattle.sheet.specs.Reading.{reading}
 use Rattle.limits.specs.Limits.{limiting}
 use Rattle.budgets.specs.Budgets.{budgeting}
+use Rattle.loadings.specs.Loads.{afterLoading}
+use Rattle.guarded.specs.Guarded.{guarding, plainBits, guardedOutcome}
 use Rattle.answers.specs.Answers.{hosted, hostedBuffer}
 
 abbrev pub outsideLimits : (sheet out answer : List ℕ) → Outcome
@@ -26,3 +28,10 @@ outsideBudgets sheet list out answer =
 
 abbrev pub outsideBudgeted : (sheet list out answer : List ℕ) → List ℕ
 outsideBudgeted sheet list out answer = hostedBuffer answer out (afterWriting (budgeting sheet list (length out)) out)
+
+-- W9: as the host's loadings
+abbrev pub outsideGuarded : (sheet table answer : List ℕ) → Outcome
+outsideGuarded sheet table answer = hosted sheet answer (guardedOutcome (plainBits (reading sheet)) (guarding (reading sheet) (length table)))
+
+abbrev pub outsideGuardedTable : (sheet table answer : List ℕ) → List ℕ
+outsideGuardedTable sheet table answer = hostedBuffer answer table (afterLoading (guarding (reading sheet) (length table)) table)

@@ -1,11 +1,13 @@
 // Calls of the library that the C host does not have, as C entries for the tests alone: in no header, with the host's conventions.
-// Document 02, W7: 'the host keeps only document 01's calls'.
+// Document 02, W7: 'the host keeps only document 01's calls'; W3 and W9 have calls of the library too.
 ghost use mathlib.Core.Path.{_≡_};
 ghost use Rattle.lists.specs.Lent.{before, after};
 ghost use Rattle.refusals.specs.Writing.{writeNumbers};
+ghost use Rattle.guarded.specs.Guarded.{guardedNumbers};
 ghost use Rattle.answers.specs.Answers.{code, answered, Says};
-ghost use Rattle.outside.specs.Outside.{outsideLimits, outsideLimited, outsideBudgets, outsideBudgeted};
+ghost use Rattle.outside.specs.Outside.{outsideLimits, outsideLimited, outsideBudgets, outsideBudgeted, outsideGuarded, outsideGuardedTable};
 use answers::Reply;
+use guarded::GuardedLoad;
 use refusals::WriteAnswer;
 use sizes::ANSWER_BYTES;
 
@@ -57,4 +59,33 @@ pub extern "C" fn outside_budgets(
     }
     let written = loader::budgets(sheet, list, out);
     answers::put(of_write(written), answer)
+}
+
+// The reply of the guarded loading: its three totals.
+fn of_guarded(loaded: GuardedLoad) -> Reply
+    ensures { λ r. ⌜ Says r (guardedNumbers loaded) ⌝ }
+{
+    match loaded {
+        GuardedLoad::Refused(why) => answers::of_refusal(why),
+        GuardedLoad::Totals(bits, power, plain) => Reply {
+            returned: 0,
+            count: 3,
+            first: bits as u64,
+            second: power,
+            third: plain as u64,
+        },
+    }
+}
+
+#[no_mangle]
+pub extern "C" fn outside_guarded(sheet: &[u8], table: &mut [u8], answer: &mut [u8]) -> u64
+    ensures returned { λ r. ⌜ r ≡ code (outsideGuarded (before sheet) (before table) (before answer)) ⌝ }
+    ensures bytes { λ r. ⌜ after table ≡ outsideGuardedTable (before sheet) (before table) (before answer) ⌝ }
+    ensures answers { λ r. ⌜ after answer ≡ answered (outsideGuarded (before sheet) (before table) (before answer)) (before answer) ⌝ }
+{
+    if answer.len() < ANSWER_BYTES {
+        return answers::without_room(sheet);
+    }
+    let loaded = loader::guarded(sheet, table);
+    answers::put(of_guarded(loaded), answer)
 }

@@ -1,4 +1,5 @@
--- What the command at a place of a sheet carries after its tone's number: the tone that it describes, or the rest that it gives.
+-- What the command at a place of a sheet carries after its tone's number: the tone that it describes, or the rest or
+-- the high noise that it gives.
 -- Assumes nothing.
 use mathlib.Core.Bool.{cond}
 use mathlib.Core.List.{List}
@@ -15,7 +16,8 @@ use Rattle.line.specs.declared.ReadNumbers.{ReadNumbers}
 use Rattle.line.specs.declared.Kind.{Kind}
 use Rattle.line.specs.declared.Kind.the-variants.{Pair, Single, Read}
 use Rattle.line.specs.declared.Tone.{Tone}
-use Rattle.line.specs.Line.{Entry, undescribed, described}
+use Rattle.line.specs.Tone.{noiseOf}
+use Rattle.line.specs.Line.{Added, Entry, undescribed, described}
 use Rattle.addresses.specs.Addresses.{shortOf, carriedAt}
 
 -- 'noise 2, gain 2, cap 1, mask 8', from a place on; what is not there reads as 0
@@ -56,7 +58,20 @@ abbrev pub restFrom : List ℕ → (place : ℕ) → ℕ
 restFrom s zero = 0
 restFrom s (suc p) = restAt s (suc p)
 
--- the entry of a tone whose command stands at a place, undescribed where none does, and whose rest's at another
-abbrev pub entryAt : List ℕ → (place rest : ℕ) → Entry
-entryAt s zero rest = undescribed
-entryAt s (suc p) rest = described (toneAt s (suc p)) (restFrom s rest)
+-- W9, 0C: 'tone and high noise, 2 bytes'
+abbrev pub highAt : List ℕ → (place : ℕ) → ℕ
+highAt s place = numberAt s (carriedAt s place) 2
+
+-- the high noise whose command stands at a place; where none does, the tone's own noise
+abbrev pub highFrom : List ℕ → Tone → (place : ℕ) → ℕ
+highFrom s t zero = noiseOf (t .kind)
+highFrom s t (suc p) = highAt s (suc p)
+
+-- what is added to a tone by commands that stand at two places
+abbrev pub addedAt : List ℕ → Tone → (rest high : ℕ) → Added
+addedAt s t rest high = record { rest = restFrom s rest; high = highFrom s t high }
+
+-- the entry of a tone whose command stands at a place, undescribed where none does, and whose rest's and high noise's at two others
+abbrev pub entryAt : List ℕ → (place rest high : ℕ) → Entry
+entryAt s zero rest high = undescribed
+entryAt s (suc p) rest high = described (toneAt s (suc p)) (addedAt s (toneAt s (suc p)) rest high)

@@ -1,9 +1,9 @@
 -- Laws of the rows:
 -- - `below`, `above`, `in-range`: what an operand with a range decides;
--- - `one-operand`, `silence-operands`, `rest-operands`: a command as a chain of tests at the places of its operands;
+-- - `one-operand`, `silence-operands`, `rest-operands`, `high-operands`: a command as a chain of tests at the places of its operands;
 -- - `tone-operands`, `number-operands`, `level-operands`, `ratio-operands`, `cap-operands`: the same of a tone's, from one operand on;
--- - `described-at`, `no-tone-yet`, `has-rest`, `no-rest-yet`, `rest-judged`: whether a tone is described and takes a rest, from its places;
--- - `header-width`, `number-codes`, `tone-row`, `rest-row`, `end-row`: the rows by their bytes, as the code finds them.
+-- - `described-at`, `rest-judged`, `noise-judged`, `low-judged`: whether a tone is described, and what it takes, from its places;
+-- - `header-width`, `number-codes`, `tone-row`, `rest-row`, `high-row`, `end-row`: the rows by their bytes, as the code finds them.
 -- Assumes nothing.
 use mathlib.Core.Path.{_≡_, refl, sym, ap}
 use mathlib.Core.Bool.{Bool, true, false, cond}
@@ -22,19 +22,20 @@ use Rattle.bigendian.proofs.Numbers.{number-one}
 use Rattle.silence.specs.Map.{namesBeyond}
 use Rattle.gaps.specs.Gap.{parts}
 use Rattle.readings.specs.Reading.{isUsable, isOver}
-use Rattle.line.specs.Tone.{mostCap, isRest}
+use Rattle.line.specs.Tone.{mostCap, isRest, noiseOf, hasNoise}
 use Rattle.line.specs.Line.{isDescribed}
 use Rattle.refusals.specs.declared.Refusal.{Refusal}
 use Rattle.refusals.specs.declared.Refusal.the-variants.{OperandOutOfRange, ToneBeyondLine, ToneRepeated, FloatOutOfRange, CostOutOfRange, ToneCannotTake, RestOutOfRange}
 use Rattle.addresses.specs.Addresses.{twin, shortOf}
 use Rattle.addresses.proofs.Widths.{one-of-both}
+use Rattle.noises.specs.Noises.{entryHasNoise, entryLow}
 use Rattle.places.specs.Places.{toneAt, entryAt}
 use Rattle.places.proofs.Entries.{entry-there}
 use Rattle.rows.specs.declared.Header.{Header}
 use Rattle.rows.specs.declared.Command.{Command}
-use Rattle.rows.specs.declared.Command.the-variants.{Describe, Rest, Silence, Refused}
-use Rattle.rows.specs.Rows.{Known, Operand, takesRest, isRestOf, within, rest, describing, capAndMask, numbers, levelsOf, ratioOf, levelOperands, ratioOperands, end, width, judged, describesFrom, rowAt}
-use Rattle.rows.specs.Codes.{knownAt, silenceRow, ToneCode, RestCode, toneOperands, toneRow, restRow, orEnd, rowOf}
+use Rattle.rows.specs.declared.Command.the-variants.{Describe, Rest, High, Silence, Refused}
+use Rattle.rows.specs.Rows.{Known, Operand, takesRest, takesHigh, isRestOf, within, rest, high, describing, capAndMask, numbers, levelsOf, ratioOf, levelOperands, ratioOperands, end, width, judged, describesFrom, rowAt}
+use Rattle.rows.specs.Codes.{silenceRow, ToneCode, RestCode, HighCode, toneOperands, toneRow, restRow, highRow, orEnd, rowOf}
 
 -- ---- operands
 
@@ -92,6 +93,16 @@ pub rest-operands : (h : Header) (known : Known) (s : List ℕ) (at w : ℕ) →
 unfolding rowAt
 rest-operands h known s at w = simp judged-cond
 
+-- the high noise's command
+pub high-operands : (h : Header) (known : Known) (s : List ℕ) (at w : ℕ) → (let i = number s (at + 1) w in let value = number s (at + 1 + w) 2 in
+    rowAt h known s at (high w)
+    ≡ cond (leb (h .size) i) (Refused (ToneBeyondLine (at + 1)))
+    (cond (takesHigh known)
+    (cond (entryHasNoise (known .entry)) (cond (ltb value (entryLow (known .entry))) (outOfRange (at + 1 + w)) (High i)) (outOfRange (at + 1)))
+    (Refused (ToneCannotTake (at + 1)))))
+unfolding rowAt
+high-operands h known s at w = simp judged-cond
+
 -- a command that describes a tone, and then from one operand on
 pub tone-operands : (h : Header) (known : Known) (s : List ℕ) (at w short : ℕ) (os : List Operand) → (let i = number s (at + 1) w in
     rowAt h known s at (describing w short os)
@@ -137,24 +148,20 @@ module _ (h : Header) (known : Known) (s : List ℕ) (at i : ℕ) where
   cap-operands values most = simp (judged-cond, number-one)
 
 -- a tone is described where its command has a place
-pub described-at : (s : List ℕ) (rest place : ℕ) → isDescribed (entryAt s place rest) ≡ ltb 0 place
-described-at s rest zero = refl
-described-at s rest (suc p) = sym (lt-ltb 0 (suc p) (omega arith))
+pub described-at : (s : List ℕ) (rest high place : ℕ) → isDescribed (entryAt s place rest high) ≡ ltb 0 place
+described-at s rest high zero = refl
+described-at s rest high (suc p) = sym (lt-ltb 0 (suc p) (omega arith))
 
--- a tone takes a rest where its command has a place and its rest has none
-module _ (s : List ℕ) (place rest : ℕ) where
-  pub no-tone-yet : place ≤ 0 → takesRest (knownAt s place rest) ≡ false
-  no-tone-yet h = rw (described-at s rest place, le-ltb 0 place h)
+-- a described tone is judged by what stands at its place
+module _ (s : List ℕ) (place rest high : ℕ) where
+  pub rest-judged : (g v : ℕ) → 0 < place → isRestOf g (entryAt s place rest high) v ≡ isRest g (toneAt s place) v
+  rest-judged g v h = rw (entry-there s rest high place h)
 
-  pub has-rest : 0 < place → 0 < rest → takesRest (knownAt s place rest) ≡ false
-  has-rest h k = rw (described-at s rest place, lt-ltb 0 place h, lt-ltb 0 rest k)
+  pub noise-judged : 0 < place → entryHasNoise (entryAt s place rest high) ≡ hasNoise (toneAt s place .kind)
+  noise-judged h = rw (entry-there s rest high place h)
 
-  pub no-rest-yet : 0 < place → rest ≤ 0 → takesRest (knownAt s place rest) ≡ true
-  no-rest-yet h k = rw (described-at s rest place, lt-ltb 0 place h, le-ltb 0 rest k)
-
-  -- then it is judged by the tone that stands there
-  pub rest-judged : (g v : ℕ) → 0 < place → isRestOf g (entryAt s place rest) v ≡ isRest g (toneAt s place) v
-  rest-judged g v h = rw (entry-there s rest place h)
+  pub low-judged : 0 < place → entryLow (entryAt s place rest high) ≡ noiseOf (toneAt s place .kind)
+  low-judged h = rw (entry-there s rest high place h)
 
 -- ---- the row of a command byte
 
@@ -173,7 +180,7 @@ number-codes short p q = rw (ne-eqb short 9 p, ne-eqb short 10 q) (by (eqb short
     by true = refl
     by false = refl
 
--- the rows of the bytes that describe a tone or give a rest, short or a twin's
+-- the rows of the bytes that describe a tone, give a rest or give a high noise, short or a twin's
 module _ (code : ℕ) where
   pub tone-row : ToneCode code → toneRow code ≡ rowOf code
   tone-row = ⊎-elim (⊎-elim (of 4 refl refl) (of 5 refl refl)) (⊎-elim (of 9 refl refl) (of 10 refl refl))
@@ -184,8 +191,11 @@ module _ (code : ℕ) where
   pub rest-row : RestCode code → restRow code ≡ rowOf code
   rest-row e = ⊎-elim (λ f. rw f) (λ f. rw f) (one-of-both code 11 e)
 
+  pub high-row : HighCode code → highRow code ≡ rowOf code
+  high-row e = ⊎-elim (λ f. rw f) (λ f. rw f) (one-of-both code 12 e)
+
 -- 7, and every byte that is none of the other commands', is taken for the end
-module _ (code : ℕ) (no-tone : ToneCode code → ⊥) (no-rest : RestCode code → ⊥) where
+module _ (code : ℕ) (no-tone : ToneCode code → ⊥) (no-rest : RestCode code → ⊥) (no-high : HighCode code → ⊥) where
   pub end-row : (code ≡ 1 → ⊥) → (code ≡ 2 → ⊥) → (code ≡ 3 → ⊥) → (code ≡ 6 → ⊥) → (code ≡ 8 → ⊥) → rowOf code ≡ end
   end-row p1 p2 p3 p6 p8 =
       rw (
@@ -204,6 +214,8 @@ module _ (code : ℕ) (no-tone : ToneCode code → ⊥) (no-rest : RestCode code
         ne-eqb code 25 (λ e. no-tone (inr (inl (ap shortOf e)))),
         ne-eqb code 26 (λ e. no-tone (inr (inr (ap shortOf e)))),
         ne-eqb code 27 (λ e. no-rest (ap shortOf e)),
+        ne-eqb code 12 (λ e. no-high (ap shortOf e)),
+        ne-eqb code 28 (λ e. no-high (ap shortOf e)),
       )
       (either (eqb code 7))
     where

@@ -10,11 +10,11 @@ use lib.Dec.{ltb, eqb}
 use Rattle.sizes.specs.Sizes.{mostTones, mostWords}
 use Rattle.addresses.specs.Addresses.{numberWidth, shortOf}
 use Rattle.places.specs.Places.{entryAt}
-use Rattle.rows.specs.Rows.{Operand, Known, Row, size, describing, numbers, levelOperands, ratioOperands, rest, silence, end, rowsOf, withCode, width}
+use Rattle.rows.specs.Rows.{Operand, Known, Row, size, describing, numbers, levelOperands, ratioOperands, rest, high, silence, end, rowsOf, withCode, width}
 
--- what is known of the tone whose command stands at a place, and whose rest's at another; 0 for none
-abbrev pub knownAt : List ℕ → (place rest : ℕ) → Known
-knownAt s place rest = record { entry = entryAt s place rest; rested = ltb 0 rest }
+-- what is known of the tone whose command stands at a place, and whose rest's and high noise's at two others; 0 for none
+abbrev pub knownAt : List ℕ → (place rest high : ℕ) → Known
+knownAt s place rest high = record { entry = entryAt s place rest high; rested = ltb 0 rest; widened = ltb 0 high }
 
 abbrev pub sizeRow : Row
 sizeRow = size mostTones
@@ -26,12 +26,15 @@ silenceRow = silence mostWords
 abbrev pub toneOperands : (short : ℕ) → List Operand
 toneOperands short = cond (eqb short 0x05) (numbers true) (cond (eqb short 0x09) levelOperands (cond (eqb short 0x0a) ratioOperands (numbers false)))
 
--- the rows of a byte that describes a tone, and of one that gives a rest, short or a twin's
+-- the rows of a byte that describes a tone, and of one that gives a rest or a high noise, short or a twin's
 abbrev pub toneRow : (code : ℕ) → Row
 toneRow code = describing (numberWidth code) (shortOf code) (toneOperands (shortOf code))
 
 abbrev pub restRow : (code : ℕ) → Row
 restRow code = rest (numberWidth code)
+
+abbrev pub highRow : (code : ℕ) → Row
+highRow code = high (numberWidth code)
 
 -- a byte that describes a tone, by the short command's
 abbrev pub ShortToneCode : (short : ℕ) → Type 0
@@ -40,9 +43,12 @@ ShortToneCode short = ((short ≡ 0x04) ⊎ (short ≡ 0x05)) ⊎ ((short ≡ 0x
 abbrev pub ToneCode : (code : ℕ) → Type 0
 ToneCode code = ShortToneCode (shortOf code)
 
--- a byte that gives a rest
+-- a byte that gives a rest, and one that gives a high noise
 abbrev pub RestCode : (code : ℕ) → Type 0
 RestCode code = shortOf code ≡ 0x0b
+
+abbrev pub HighCode : (code : ℕ) → Type 0
+HighCode code = shortOf code ≡ 0x0c
 
 -- the rows of a stage, and of every stage
 abbrev pub rowsIn : (stage : ℕ) → List Row

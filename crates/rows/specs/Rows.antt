@@ -1,4 +1,5 @@
--- The commands of a sheet, one row for each. Document 01, 'The line sheet' and 'Why a sheet is turned down'; document 02, W1, W5, W6 and W8.
+-- The commands of a sheet, one row for each. Document 01, 'The line sheet' and 'Why a sheet is turned down'; document 02, W1, W5, W6,
+-- W8 and W9.
 -- Assumes nothing.
 use mathlib.Core.Bool.{Bool, true, false, not, _&&_, cond}
 use mathlib.Core.List.{List, [], _∷_, _++_}
@@ -16,18 +17,21 @@ use Rattle.readings.specs.declared.Reading.the-variants.{Both, Ratio}
 use Rattle.readings.specs.Reading.{isUsable, floatOf, isOver}
 use Rattle.line.specs.Tone.{mostCap, isRest}
 use Rattle.line.specs.Line.{Entry, undescribed, described, isDescribed}
+use Rattle.noises.specs.Noises.{entryHasNoise, entryLow}
 use Rattle.addresses.specs.Addresses.{codeOf}
 use Rattle.refusals.specs.declared.Refusal.{Refusal}
 use Rattle.refusals.specs.declared.Refusal.the-variants.{SheetEnds, OperandOutOfRange, ToneBeyondLine, ToneRepeated, FloatOutOfRange, CostOutOfRange, ToneCannotTake, RestOutOfRange}
 use Rattle.rows.specs.declared.Header.{Header}
 use Rattle.rows.specs.declared.Command.{Command}
-use Rattle.rows.specs.declared.Command.the-variants.{End, Refused, Head, Describe, Rest, Silence}
+use Rattle.rows.specs.declared.Command.the-variants.{End, Refused, Head, Describe, Rest, High, Silence}
 use Rattle.rows.specs.declared.Decoded.{Decoded}
 
--- What the reading knows of a tone: its entry so far, and whether it has had a 0B, 'even of rest 0', which is no part of the line.
+-- What the reading knows of a tone: its entry so far, and whether it has had a 0B, 'even of rest 0', and a 0C, even of an equal noise, which
+-- are no part of the line.
 pub record Known : Type 0 where
   pub entry : Entry
   pub rested : Bool
+  pub widened : Bool
 
 -- What judging an operand looks at besides its value: the header so far, what is known of the tone that the command addresses, and the
 -- operands before it.
@@ -70,9 +74,16 @@ lastFloat back reading = record {
       (some (FloatOutOfRange place));
 }
 
--- W6, refusals 5 and then 14: 'the tone is in range but not yet described or has had a 0B already, even of rest 0, placed at the tone'
+-- W6, refusals 5 and then 14: 'the tone is in range but not yet described or has had a 0B already, even of rest 0, placed at the tone'. W9: 'A
+-- tone undescribed or given twice is 14, as in W6'.
+abbrev pub takes : Entry → (had : Bool) → Bool
+takes e had = isDescribed e && not had
+
 abbrev pub takesRest : Known → Bool
-takesRest k = isDescribed (k .entry) && not (k .rested)
+takesRest k = takes (k .entry) (k .rested)
+
+abbrev pub takesHigh : Known → Bool
+takesHigh k = takes (k .entry) (k .widened)
 
 abbrev pub restedTone : (width : ℕ) → Operand
 restedTone width = record {
@@ -83,13 +94,26 @@ restedTone width = record {
 -- W6, refusal 15: 'the rest is not below the cost or is above the mask, placed at the rest', by the cost at the line's gap
 abbrev pub isRestOf : (g : ℕ) → Entry → (rest : ℕ) → Bool
 isRestOf g undescribed rest = false
-isRestOf g (described t r) rest = isRest g t rest
+isRestOf g (described t a) rest = isRest g t rest
 
 abbrev pub restOperand : Operand
 restOperand = record {
   width = 4;
   judge = λ seen v place. cond (isRestOf (parts (seen .header .gap)) (seen .known .entry) v) none (some (RestOutOfRange place));
 }
+
+-- W9: then 'a tone of another command is 4 at the tone'
+abbrev pub widenedTone : (width : ℕ) → Operand
+widenedTone width = record {
+  width = width;
+  judge = λ seen v place.
+      cond (leb (seen .header .size) v) (some (ToneBeyondLine place))
+      (cond (takesHigh (seen .known)) (cond (entryHasNoise (seen .known .entry)) none (some (OperandOutOfRange place))) (some (ToneCannotTake place)));
+}
+
+-- W9: 'then a high noise below the noise is 4 at that operand'
+abbrev pub highOperand : Operand
+highOperand = record { width = 2; judge = λ seen v place. cond (ltb v (entryLow (seen .known .entry))) (some (OperandOutOfRange place)) none }
 
 -- refusal 5: 'a map names such a tone'; the word stands before it
 abbrev pub map : Operand
@@ -177,6 +201,10 @@ ratio width = describing width 0x0a ratioOperands
 abbrev pub rest : (width : ℕ) → Row
 rest width = record { code = codeOf width 0x0b; operands = restedTone width ∷ restOperand ∷ []; does = λ h v. Rest (getD v 0 0) }
 
+-- W9: 'Command 0C (twin 1C) gives tone and high noise, 2 bytes'
+abbrev pub high : (width : ℕ) → Row
+high width = record { code = codeOf width 0x0c; operands = widenedTone width ∷ highOperand ∷ []; does = λ h v. High (getD v 0 0) }
+
 -- 06 silence: 'word 1, map 4'. The words, from 0 on, are the format's.
 abbrev pub silence : (words : ℕ) → Row
 silence words = record { code = 0x06; operands = within 1 0 (words - 1) ∷ map ∷ []; does = λ h v. Silence (getD v 0 0) (getD v 1 0) }
@@ -220,9 +248,19 @@ twinRows (suc zero) = []
 twinRows (suc (suc zero)) = []
 twinRows (suc (suc (suc n))) = pair 2 ∷ single 2 ∷ levels 2 ∷ ratio 2 ∷ rest 2 ∷ []
 
--- those of document 01 and of the requests, in the order in which they came
+-- W9: 0C and its twin stand 'anywhere after the tone', which 14 judges
+abbrev pub highRows : (stage : ℕ) → List Row
+highRows zero = []
+highRows (suc zero) = []
+highRows (suc (suc zero)) = []
+highRows (suc (suc (suc n))) = high 1 ∷ high 2 ∷ []
+
+-- those of document 01 and of the requests, in the order in which they came: up to W8, and all
+abbrev pub rowsToTwins : (tones words stage : ℕ) → List Row
+rowsToTwins tones words stage = (((firstRows tones words stage ++ tenthsRows stage) ++ readingRows stage) ++ restRows stage) ++ twinRows stage
+
 abbrev pub rowsOf : (tones words stage : ℕ) → List Row
-rowsOf tones words stage = (((firstRows tones words stage ++ tenthsRows stage) ++ readingRows stage) ++ restRows stage) ++ twinRows stage
+rowsOf tones words stage = rowsToTwins tones words stage ++ highRows stage
 
 abbrev pub withCode : List Row → (code : ℕ) → Option Row
 withCode [] code = none

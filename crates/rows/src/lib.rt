@@ -1,5 +1,5 @@
 // The commands of a line sheet, one row for each, and the code that judges their operands: document 01, 'The line sheet' and 'Why a sheet is
-// turned down', and document 02, W1, W5, W6 and W8.
+// turned down', and document 02, W1, W5, W6, W8 and W9.
 ghost use mathlib.Core.Path.{_≡_};
 ghost use Prim.Native.Nat.{_+_, _≤_};
 ghost use lib.ListN.{length};
@@ -16,6 +16,7 @@ use refusals::Refusal;
 use sizes::BUDGET_COMMAND;
 use sizes::END_COMMAND;
 use sizes::GAP_COMMAND;
+use sizes::HIGH_COMMAND;
 use sizes::LEVELS_COMMAND;
 use sizes::MOST_POWER;
 use sizes::RATIO_COMMAND;
@@ -34,14 +35,15 @@ pub struct Header {
     pub budget: u64,
 }
 
-// What a command does, or why it is refused: it ends the sheet, makes a new header, describes a tone, gives one its rest, or silences the
-// tones of a map. A later command has one of these effects too.
+// What a command does, or why it is refused: it ends the sheet, makes a new header, describes a tone, gives one its rest or its high
+// noise, or silences the tones of a map. A later command has one of these effects too.
 pub enum Command {
     End,
     Refused(Refusal),
     Head(Header),
     Describe(u16),
     Rest(u16),
+    High(u16),
     Silence(u8, u32),
 }
 
@@ -154,11 +156,13 @@ pub fn bytes_of(code: u8) -> usize
         9 => LEVELS_COMMAND,
         10 => RATIO_COMMAND,
         11 => REST_COMMAND,
+        12 => HIGH_COMMAND,
         20 => TONE_COMMAND + 1,
         21 => TONE_COMMAND + 1,
         25 => LEVELS_COMMAND + 1,
         26 => RATIO_COMMAND + 1,
         27 => REST_COMMAND + 1,
+        28 => HIGH_COMMAND + 1,
         _ => END_COMMAND,
     }
 }

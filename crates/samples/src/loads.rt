@@ -1,6 +1,8 @@
-// The loadings, the re-fits, the limits and the totals for many budgets of the test program: each call made, and what it answers printed.
+// The loadings, the re-fits, the limits, the totals for many budgets and the guarded loading of the test program: each call made, and what it
+// answers printed.
 //
-//   loaded 6 39              bits and power; of a re-fit `refitted`, and the moves besides
+//   loaded 6 39              bits and power; of a re-fit `refitted`, and the moves besides; of a guarded loading
+//                            `guarded`, and the plain loading's bits besides
 //   table 3:21 2:15 1:3      bits:power of each tone
 //   exact same               into 9 bytes a tone: the same, and past them the first buffer is untouched
 //   short 8 0 untouched      into one byte less: refusal and place
@@ -17,6 +19,7 @@ use crate::printing::print;
 use crate::printing::print_number;
 use crate::printing::print_pair;
 use crate::printing::print_touched;
+use guarded::GuardedLoad;
 use line::SetBy;
 use loadings::Loaded;
 use loadings::Refitted;
@@ -38,7 +41,7 @@ use sizes::TOTALS_BYTES;
 // A table of more bytes than this, those of 32 tones, is printed as a sum.
 const PRINTED_BYTES: usize = 32 * TONE_BYTES;
 
-// A loading, a re-fit, the limits or the totals for many budgets.
+// A loading, a re-fit, the limits, the totals for many budgets or the guarded loading.
 pub(crate) enum Call {
     Most,
     Target(u32),
@@ -46,16 +49,18 @@ pub(crate) enum Call {
     Step,
     Limits,
     Budgets,
+    Guarded,
 }
 
-// What a call answers: a refusal's number and place, or number 0 and the totals. A loading has no
-// moves, and the calls that only write have no totals.
+// What a call answers: a refusal's number and place, or number 0 and the totals. The third is a re-fit's
+// moves, or the plain loading's bits beside a guarded one's; a loading has none, and the calls that only
+// write have no totals.
 struct Totals {
     number: u32,
     place: u32,
     bits: u32,
     power: u64,
-    moves: u32,
+    third: u32,
 }
 
 fn numbered(number: u32, place: u32) -> Totals {
@@ -64,7 +69,7 @@ fn numbered(number: u32, place: u32) -> Totals {
         place: place,
         bits: 0,
         power: 0,
-        moves: 0,
+        third: 0,
     }
 }
 
@@ -86,7 +91,7 @@ fn loaded(answer: Loaded) -> Totals {
             place: 0,
             bits: bits,
             power: power,
-            moves: 0,
+            third: 0,
         },
         Loaded::Refused(why) => refused(why),
     }
@@ -99,9 +104,22 @@ fn refitted(answer: Refitted) -> Totals {
             place: 0,
             bits: bits,
             power: power,
-            moves: moves,
+            third: moves,
         },
         Refitted::Refused(why) => refused(why),
+    }
+}
+
+fn guarded(answer: GuardedLoad) -> Totals {
+    match answer {
+        GuardedLoad::Totals(bits, power, plain) => Totals {
+            number: 0,
+            place: 0,
+            bits: bits,
+            power: power,
+            third: plain,
+        },
+        GuardedLoad::Refused(why) => refused(why),
     }
 }
 
@@ -114,6 +132,7 @@ fn made(call: Call, sheet: &[u8], start: &[u8], table: &mut [u8]) -> Totals {
         Call::Step => refitted(loader::refit_step(sheet, start, table)),
         Call::Limits => written(loader::limits(sheet, table)),
         Call::Budgets => written(loader::budgets(sheet, start, table)),
+        Call::Guarded => guarded(loader::guarded(sheet, table)),
     }
 }
 
@@ -146,12 +165,21 @@ fn print_written(call: Call, t: Totals, written: &[u8]) {
         }
         Call::Refit | Call::Step => {
             print_pair(b"refitted ", t.bits as u64, t.power);
-            print(b" ");
-            print_number(t.moves as u64);
-            print(b"\n");
-            print_table(written);
+            print_third(t.third, written);
+        }
+        Call::Guarded => {
+            print_pair(b"guarded ", t.bits as u64, t.power);
+            print_third(t.third, written);
         }
     }
+}
+
+// The third answer, after the other two, and the table.
+fn print_third(third: u32, written: &[u8]) {
+    print(b" ");
+    print_number(third as u64);
+    print(b"\n");
+    print_table(written);
 }
 
 // The word for what set a limit, after a colon.
@@ -235,7 +263,7 @@ fn show_exact(call: Call, sheet: &[u8], start: &[u8], table: [u8; ROOM], t: Tota
     let equal = t.number == u.number
         && t.bits == u.bits
         && t.power == u.power
-        && t.moves == u.moves;
+        && t.third == u.third;
     if equal && same(&table, &again) {
         print(b"exact same\n");
     } else {

@@ -7,6 +7,7 @@
 //   step START / SHEET     one step of it
 //   limits / SHEET         the limit of each tone, and what set it
 //   budgets LIST / SHEET   total bits and total power for each budget of a list
+//   guarded / SHEET        the guarded loading
 //
 // SHEET, START and LIST are bytes as crate sampletext reads them, and `-` where there are none. An empty
 // line is skipped, and a line that starts with `#` is written back.
@@ -130,6 +131,7 @@ fn show_call(first: u8, text: &[u8]) {
         b'r' => Call::Refit,
         b'l' => Call::Limits,
         b'b' => Call::Budgets,
+        b'g' => Call::Guarded,
         _ => Call::Step,
     };
     loads::show(call, &sheet[..n], &start[..m]);
@@ -152,7 +154,7 @@ fn show_line(text: &[u8]) {
             print(text);
             print(b"\n");
         }
-        b'm' | b't' | b'r' | b's' | b'l' => show_call(first, text),
+        b'm' | b't' | b'r' | b's' | b'l' | b'g' => show_call(first, text),
         b'b' => {
             // A sheet may begin with the digit b; no digit follows it in the word.
             if 1 < text.len() && text[1] == b'u' {

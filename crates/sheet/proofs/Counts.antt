@@ -21,12 +21,12 @@ use Rattle.sheet.proofs.Sound.{Bytes, Sound}
 use Rattle.sheet.proofs.Notes.{described-here}
 use Rattle.sheet.proofs.Uses.{ReadLine, silenced-here, size-is, line-sound}
 
-module _ {s places rests maps : List ℕ} where
-  described-count : {l : Line} → Indexes s places rests maps l → describedCount l ≡ count (l .size) (λ i. ltb 0 (getD places i 0))
+module _ {s places rests highs maps : List ℕ} where
+  described-count : {l : Line} → Indexes s places rests highs maps l → describedCount l ≡ count (l .size) (λ i. ltb 0 (getD places i 0))
   described-count {l} x = count-same (l .size) _ _ (λ i h. described-here x i)
 
   -- no tone from N on is silenced, so that all that the maps name can be counted
-  silenced-count : {l : Line} → Indexes s places rests maps l → Sound l → silencedCount l ≡ count mostTones (silenced maps)
+  silenced-count : {l : Line} → Indexes s places rests highs maps l → Sound l → silencedCount l ≡ count mostTones (silenced maps)
   silenced-count {l} x z =
       sym (count-past (l .size) mostTones (silenced (l .maps)) (z .in-range .size-high) beyond)
       ∙ count-same mostTones _ _ (λ i h. silenced-here x i)
@@ -36,7 +36,7 @@ module _ {s places rests maps : List ℕ} where
           let clear : bit (getD (l .maps) (i / wordTones) 0) (i % wordTones) ≡ 0 = z .maps-within (i / wordTones) (i % wordTones) (omega arith) in
           ap (λ (b : ℕ). eqb b 1) clear
 
-  pub counts-are : {h : Header} → ReadLine s h places rests maps → Bytes s → {a b : ℕ} → a ≡ count (h .size) (λ i. ltb 0 (getD places i 0)) → b ≡ count mostTones (silenced maps)
+  pub counts-are : {h : Header} → ReadLine s h places rests highs maps → Bytes s → {a b : ℕ} → a ≡ count (h .size) (λ i. ltb 0 (getD places i 0)) → b ≡ count mostTones (silenced maps)
       → checked.Counts (h .size) a b ≡ checking (reading s)
   counts-are {h} x bytes {a} {b} p q =
       let l = x .index .line in

@@ -15,16 +15,16 @@ use Rattle.lists.proofs.Stores.{all-same}
 use Rattle.silence.specs.Map.{silenced}
 use Rattle.steps.proofs.Sums.{sum-zero}
 use Rattle.line.specs.declared.Tone.{Tone}
-use Rattle.line.specs.Line.{Entry, undescribed, described, Line, entryOf, entryRest, restOf, restTotal}
+use Rattle.line.specs.Line.{noneAdded, Entry, undescribed, described, Line, entryOf, entryRest, restOf, restTotal}
 use Rattle.rows.specs.declared.Header.{Header}
 use Rattle.rows.specs.declared.Command.{Command}
-use Rattle.rows.specs.declared.Command.the-variants.{End, Refused, Head, Describe, Rest, Silence}
+use Rattle.rows.specs.declared.Command.the-variants.{End, Refused, Head, Describe, Rest, High, Silence}
 use Rattle.rows.specs.declared.Decoded.{Decoded}
 use Rattle.rows.specs.Rows.{Known, Row, width, withCode}
 use Rattle.addresses.specs.Addresses.{addressed}
-use Rattle.command.specs.Format.{Format, document01, withTenths, withReadings, withRests, today, isTooLong, decodedRow, decoded, isRefused, Covered, Within}
+use Rattle.command.specs.Format.{Format, document01, withTenths, withReadings, withRests, withTwins, withSizes, today, isTooLong, decodedRow, decoded, isRefused, Covered, Within}
 use Rattle.command.proofs.Walk.{Each}
-use Rattle.command.proofs.Formats.{tenths-within, readings-within, rests-within, withTwins, twins-within, sizes-within}
+use Rattle.command.proofs.Formats.{tenths-within, readings-within, rests-within, twins-within, smallWithHighs, small-highs-within, highs-within, sizes-within}
 use Rattle.sheet.specs.Reading.{accepted, headerOf, withEntry, SoFar, nothing, afterCommand, knownOf, commandIn, readOn, readFrom, saidIn, readingIn, reading}
 use Rattle.sheet.proofs.Walk.{Leads, said-by}
 use Rattle.sheet.proofs.Rests.{never, accepted-is, is-accepted}
@@ -66,6 +66,7 @@ module _ (F G : Format) (wider : Within F G) where
         onward (Head h) next ih e = (refl, ih _ _ _ e)
         onward (Describe i) next ih e = (refl, ih _ _ _ e)
         onward (Rest i) next ih e = (refl, ih _ _ _ e)
+        onward (High i) next ih e = (refl, ih _ _ _ e)
         onward (Silence word map) next ih e = (refl, ih _ _ _ e)
 
     wider-said : saidIn F s ≡ accepted l → saidIn G s ≡ accepted l
@@ -108,8 +109,8 @@ module _ (s : List ℕ) where
   total-none : (l : Line) → NoRests l → NoneSent l
   total-none l z = sum-zero (l .size) (restOf l) (λ i h. none-sent (entryOf l i) (silenced (l .maps) i) (z i))
 
-  describes : (l : Line) (i : ℕ) (t : Tone) → NoRests l → NoRests (withEntry l i (described t 0))
-  describes l i t z j = after-any-store (λ j e. entryRest e false ≡ 0) (l .entries) i (described t 0) undescribed j (λ e. refl) (z j)
+  describes : (l : Line) (i : ℕ) (t : Tone) → NoRests l → NoRests (withEntry l i (described t (noneAdded t)))
+  describes l i t z j = after-any-store (λ j e. entryRest e false ≡ 0) (l .entries) i (described t (noneAdded t)) undescribed j (λ e. refl) (z j)
 
   kept : (at stage : ℕ) (x : SoFar) → Along at stage x → Each (Leads withReadings s Along NoneSent at stage x) (withReadings .rows stage)
   kept at zero x z = (λ is fits p. bare (number s (at + 1) 2), tt)
@@ -132,11 +133,17 @@ module _ (s : List ℕ) where
   pub none-before : (l : Line) → saidIn withReadings s ≡ accepted l → restTotal l ≡ 0
   none-before = said-by withReadings s Along NoneSent kept (bare 0)
 
--- W8: a sheet that the format before it accepts, with refusal 16, is accepted, and means the same line
-pub accepted-before-twins : (s : List ℕ) (l : Line) → readingIn withRests s ≡ accepted l → reading s ≡ accepted l
-accepted-before-twins s l e = accepted-wider withTwins today sizes-within s l (accepted-wider withRests withTwins twins-within s l e)
+-- W9: a sheet that the format before it accepts, with refusal 16, is accepted, and means the same line
+pub accepted-before-highs : (s : List ℕ) (l : Line) → readingIn withSizes s ≡ accepted l → reading s ≡ accepted l
+accepted-before-highs = accepted-wider withSizes today highs-within
 
--- W6: and so is one that the format before that accepts
+-- W8: and so is one that the format before that accepts
+pub accepted-before-twins : (s : List ℕ) (l : Line) → readingIn withRests s ≡ accepted l → reading s ≡ accepted l
+accepted-before-twins s l e =
+    accepted-wider smallWithHighs today sizes-within s l
+    (accepted-wider withTwins smallWithHighs small-highs-within s l (accepted-wider withRests withTwins twins-within s l e))
+
+-- W6: and one that the format before that accepts
 pub accepted-before-rests : (s : List ℕ) (l : Line) → saidIn withReadings s ≡ accepted l → reading s ≡ accepted l
 accepted-before-rests s l e =
     accepted-before-twins s l (is-accepted withRests s l (said-wider withReadings withRests rests-within s l e) (omega (arith, none-before s l e)))

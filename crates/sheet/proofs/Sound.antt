@@ -1,14 +1,14 @@
 -- The line that a sheet means is sound: its numbers are in their ranges, it has an entry for each tone and a map for each word, and no
 -- map names a tone beyond it. Laws:
---   bare-sound, stored, silences       a line is sound after the first three commands, after a tone's or a rest's, after a silence
+--   bare-sound, stored, silences       a line is sound after the first three commands, after a tone's, a rest's or a high noise's, after a silence
 --   kept                               so is each line that the reading comes to
 --   said-sound                         so is the line that the bytes say
 --   accepted-sound, accepted-fits,     the line of an accepted sheet is sound, its rests keep the budget,
 --   accepted-short                     and the sheet is not too long
 -- Assumes nothing.
-use mathlib.Core.Bool.{Bool, true, false}
+use mathlib.Core.Bool.{Bool, true, false, true≢false}
 use mathlib.Core.List.{List, [], _∷_}
-use mathlib.Core.Path.{_≡_, refl, _∙_}
+use mathlib.Core.Path.{_≡_, refl, sym, _∙_}
 use Prim.Native.Nat.{ℕ, zero, suc, _+_, _*_, _^_, _≤_, _<_}
 use native.Mathlib.Decide.{decLe}
 use native.Mathlib.Nat.{zero-div}
@@ -32,16 +32,17 @@ use Rattle.readings.proofs.Readings.{usable-float, cost-low, granted}
 use Rattle.line.specs.declared.Numbers.{Numbers}
 use Rattle.line.specs.declared.ReadNumbers.{ReadNumbers}
 use Rattle.line.specs.declared.Kind.{Kind}
-use Rattle.line.specs.declared.Kind.the-variants.{Read}
-use Rattle.line.specs.Tone.{kindOf, mostCap, kindCost, NumbersInRange, InRange}
-use Rattle.line.specs.Line.{Entry, undescribed, described, withRest, EntryInRange, Line, gapOf, entryOf, restTotal, LineInRange}
+use Rattle.line.specs.declared.Kind.the-variants.{Pair, Single, Read}
+use Rattle.line.specs.Tone.{kindOf, mostCap, kindCost, noiseOf, hasNoise, HighInRange, KindInRange, NumbersInRange, InRange}
+use Rattle.line.specs.Line.{Entry, undescribed, described, withRest, withHigh, EntryInRange, Line, gapOf, entryOf, restTotal, LineInRange}
 use Rattle.line.proofs.Costs.{whole-range}
 use Rattle.line.proofs.Rested.{rest-taken}
+use Rattle.noises.specs.Noises.{entryHasNoise, entryLow}
 use Rattle.rows.specs.declared.Header.{Header}
 use Rattle.rows.specs.declared.Command.the-variants.{Describe, Silence}
 use Rattle.addresses.specs.Addresses.{codeOf, numberWidth, shortOf, addressed}
-use Rattle.places.specs.Places.{numbersAt, levelsAt, ratioAt, kindAt, toneAt, restAt}
-use Rattle.rows.specs.Rows.{Seen, Operand, isRestOf, describing, numbers, levelOperands, ratioOperands, levels, ratio, rest, silence, width}
+use Rattle.places.specs.Places.{numbersAt, levelsAt, ratioAt, kindAt, toneAt, restAt, highAt}
+use Rattle.rows.specs.Rows.{Seen, Operand, isRestOf, takesHigh, describing, numbers, levelOperands, ratioOperands, levels, ratio, rest, high, silence, width}
 use Rattle.command.specs.Format.{today}
 use Rattle.command.proofs.Walk.{Each, Passed, passes, takes, in-within}
 use Rattle.sheet.specs.Reading.{accepted, headerOf, bareLine, withEntry, effect, SoFar, knownOf, saidIn, said, reading}
@@ -115,14 +116,30 @@ stored i e l z r = record {
   maps-within = z .maps-within;
 }
 
--- a tone has no rest when it is described
+-- the high noise of a tone that has had none is its own
+own-noise : (k : Kind) → KindInRange k → HighInRange k (noiseOf k)
+own-noise (Pair n) I = record { at-least = omega arith; two-bytes = I .noise-high }
+own-noise (Single n) I = record { at-least = omega arith; two-bytes = I .noise-high }
+own-noise (Read n) I = refl
+
+-- a tone has neither rest nor high noise when it is described
 describes : (s : List ℕ) (at i : ℕ) (l : Line) → Sound l → InRange (gapOf l) (toneAt s at) → Sound (effect (Describe i) s at l)
-describes s at i l z r = stored i _ l z (r, record { below-cost = r .cost .low; within-mask = omega arith })
+describes s at i l z r = stored i _ l z (r, record { rest = record { below-cost = r .cost .low; within-mask = omega arith }; high = own-noise (toneAt s at .kind) (r .kind) })
 
 -- and then one that 15 leaves
 rest-in-range : (g rest : ℕ) (e : Entry) → EntryInRange g e → isRestOf g e rest ≡ true → EntryInRange g (withRest rest e)
 rest-in-range g rest undescribed I h = tt
-rest-in-range g rest (described t r) I h = (I .0, rest-taken g t rest h)
+rest-in-range g rest (described t a) I h = (I .0, record { rest = rest-taken g t rest h; high = I .1 .high })
+
+-- a high noise that 4 leaves
+widened-noise : (k : Kind) (high : ℕ) → hasNoise k ≡ true → noiseOf k ≤ high → high ≤ 65535 → HighInRange k high
+widened-noise (Pair n) high has l h = record { at-least = l; two-bytes = h }
+widened-noise (Single n) high has l h = record { at-least = l; two-bytes = h }
+widened-noise (Read n) high has l h = absurd (true≢false (sym has))
+
+high-in-range : (g high : ℕ) (e : Entry) → EntryInRange g e → entryHasNoise e ≡ true → entryLow e ≤ high → high ≤ 65535 → EntryInRange g (withHigh high e)
+high-in-range g high undescribed I has l h = tt
+high-in-range g high (described t a) I has l h = (I .0, record { rest = I .1 .rest; high = widened-noise (t .kind) high has l h })
 
 silences : (s : List ℕ) (at word map : ℕ) (l : Line) → Sound l → map < 2 ^ 32 → namesBeyond (l .size) word map ≡ false → Sound (effect (Silence word map) s at l)
 silences s at word map l z small e = record {
@@ -259,6 +276,18 @@ module _ (s : List ℕ) (bytes : Bytes s) where
         let given = takes (isRestOf (gapOf l) (entryOf l (addressed s at)) (number s (at + 1 + w) 4)) _ _ (p .1 .0) .0 in
         stored i _ l z (rest-in-range (gapOf l) (restAt s at) (entryOf l i) (z .in-range .entries i (leb-false _ _ (passes (leb (l .size) i) _ _ (p .0) .0))) (rw (tone, value) given))
 
+    high-leads : (n w : ℕ) → numberWidth (high w .code) ≡ w → Sound l → Leads today s Along Sound at (suc (suc (suc n))) x (high w)
+    high-leads n w wide z own fits p =
+        let i = number s (at + 1) w in
+        let tone : i ≡ addressed s at = rw (own, wide) in
+        let value : highAt s at ≡ number s (at + 1 + w) 2 = rw (own, wide) (number-there s (at + 1 + w) 2 (omega arith) (omega (arith, fits))) in
+        let line = passes (leb (l .size) i) _ _ (p .0) in
+        let described = takes (takesHigh (knownOf x (addressed s at))) _ _ (line .1) in
+        let has = takes (entryHasNoise (entryOf l (addressed s at))) _ _ (described .1) .0 in
+        let no-lower = ltb-false _ _ (passes (ltb (number s (at + 1 + w) 2) (entryLow (entryOf l (addressed s at)))) _ _ (p .1 .0) .0) in
+        let small : number s (at + 1 + w) 2 < 65536 = number-lt s (at + 1 + w) 2 (λ i k. bytes (at + 1 + w + i)) in
+        stored i _ l z (high-in-range (gapOf l) (highAt s at) (entryOf l i) (z .in-range .entries i (leb-false _ _ (line .0))) (rw tone has) (rw (tone, value) no-lower) (omega arith))
+
   pub kept : (at stage : ℕ) (x : SoFar) → Along at stage x → Each (Leads today s Along Sound at stage x) (today .rows stage)
   kept at zero x a =
       (λ is fits p. let v = in-within (number s (at + 1) 2) 1 mostTones _ _ (p .0) in record { low = v .0; high = v .1 }, tt)
@@ -284,7 +313,7 @@ module _ (s : List ℕ) (bytes : Bytes s) where
                 rest-leads at x n 1 refl z,
                 (
                   numbers-lead at x n 2 4 false refl refl refl z,
-                  (numbers-lead at x n 2 5 true refl refl refl z, (levels-lead at x n 2 refl refl z, (ratio-leads at x n 2 refl refl z, (rest-leads at x n 2 refl z, tt)))),
+                  (numbers-lead at x n 2 5 true refl refl refl z, (levels-lead at x n 2 refl refl z, (ratio-leads at x n 2 refl refl z, (rest-leads at x n 2 refl z, (high-leads at x n 1 refl z, (high-leads at x n 2 refl z, tt)))))),
                 ),
               ),
             ),

@@ -20,40 +20,40 @@ use Rattle.command.specs.Format.{today}
 use Rattle.sheet.specs.declared.Read.{Read}
 use Rattle.sheet.specs.declared.Read.the-variants as read
 use Rattle.sheet.specs.Reading.{Meaning, accepted, refused, headerOf, restsWithin, said, reading}
-use Rattle.sheet.specs.Index.{Indexes, Leaves, ReadsAs, Indexed, answerOf}
+use Rattle.sheet.specs.Index.{Indexes, Leaves, ReadsAs, Indexed, IndexedLow, answerOf}
 use Rattle.sheet.proofs.Turns.{ReadingEnds}
 use Rattle.sheet.proofs.Sound.{Bytes, Sound, said-sound}
 use Rattle.sheet.proofs.Rests.{rests-kept, rests-over, accepted-is, reading-said}
 
 -- what the bytes say, with 16 judged
-pub record Judged (s places rests maps : List ℕ) (r : Read) : Type 0 where
+pub record Judged (s places rests highs maps : List ℕ) (r : Read) : Type 0 where
   pub answers : r ≡ answerOf (reading s)
-  pub index : (l : Line) → reading s ≡ accepted l → Indexes s places rests maps l
+  pub index : (l : Line) → reading s ≡ accepted l → Indexes s places rests highs maps l
 
 -- the index of a sheet that is accepted
-pub record ReadLine (s : List ℕ) (h : Header) (places rests maps : List ℕ) : Type 0 where
-  pub index : Indexed s h places rests maps
+pub record ReadLine (s : List ℕ) (h : Header) (places rests highs maps : List ℕ) : Type 0 where
+  pub index : Indexed s h places rests highs maps
   pub means : reading s ≡ accepted (index .line)
 
 -- what judging the rests promises
 pub record JudgesRests (s rests maps : List ℕ) (r′ r : Read) : Type 0 where
-  pub of-line : (l : Line) (places : List ℕ) → r′ ≡ read.Accepted (headerOf l) → Indexes s places rests maps l → r ≡ answerOf (restsWithin (l .budget) l)
+  pub of-line : (l : Line) (places highs : List ℕ) → r′ ≡ read.Accepted (headerOf l) → Indexes s places rests highs maps l → r ≡ answerOf (restsWithin (l .budget) l)
   pub of-refusal : (q : Refusal) → r′ ≡ read.Refused q → r ≡ read.Refused q
 
-module _ {s places rests maps : List ℕ} where
+module _ {s places rests highs maps : List ℕ} where
   -- ---- what reading answers and leaves
 
   -- what the bytes say
-  pub said-line : {r : Read} {h : Header} → ReadingEnds s r places rests maps → r ≡ read.Accepted h → Indexed s h places rests maps
+  pub said-line : {r : Read} {h : Header} → ReadingEnds s r places rests highs maps → r ≡ read.Accepted h → Indexed s h places rests highs maps
   said-line {r} {h} x e = by (said s) refl (sym (x .0) ∙ e)
     where
-      by : (m : Meaning) → said s ≡ m → answerOf m ≡ read.Accepted h → Indexed s h places rests maps
+      by : (m : Meaning) → said s ≡ m → answerOf m ≡ read.Accepted h → Indexed s h places rests highs maps
       by (accepted l) is f = record { line = l; means = is; header-is = cc; indexes = x .1 l is }
       by (refused q) is f =
           let z : _≡_ {A = ℕ} 0 1 = cc in
           absurd (omega arith)
 
-  pub said-refused : {r : Read} {q : Refusal} → ReadingEnds s r places rests maps → r ≡ read.Refused q → said s ≡ refused q
+  pub said-refused : {r : Read} {q : Refusal} → ReadingEnds s r places rests highs maps → r ≡ read.Refused q → said s ≡ refused q
   said-refused {r} {q} x e = by (said s) (sym (x .0) ∙ e)
     where
       by : (m : Meaning) → answerOf m ≡ read.Refused q → m ≡ refused q
@@ -62,38 +62,38 @@ module _ {s places rests maps : List ℕ} where
           absurd (omega arith)
       by (refused q′) f = cc
 
-  pub judges : {r′ r : Read} → ReadingEnds s r′ places rests maps → JudgesRests s rests maps r′ r → Judged s places rests maps r
+  pub judges : {r′ r : Read} → ReadingEnds s r′ places rests highs maps → JudgesRests s rests maps r′ r → Judged s places rests highs maps r
   judges {r′} {r} x j = record { answers = by (said s) refl; index = λ l e. x .1 l (accepted-is today s l e .says) }
     where
       by : (m : Meaning) → said s ≡ m → r ≡ answerOf (reading s)
-      by (accepted l) e = j .of-line l places (x .0 ∙ ap answerOf e) (x .1 l e) ∙ ap answerOf (sym (reading-said today s (accepted l) e))
+      by (accepted l) e = j .of-line l places highs (x .0 ∙ ap answerOf e) (x .1 l e) ∙ ap answerOf (sym (reading-said today s (accepted l) e))
       by (refused q) e = j .of-refusal q (x .0 ∙ ap answerOf e) ∙ ap answerOf (sym (reading-said today s (refused q) e))
 
-  pub leaves-accepted : {r : Read} {h : Header} → Judged s places rests maps r → r ≡ read.Accepted h → ReadsAs s (read.Accepted h) places rests maps (reading s)
+  pub leaves-accepted : {r : Read} {h : Header} → Judged s places rests highs maps r → r ≡ read.Accepted h → ReadsAs s (read.Accepted h) places rests highs maps (reading s)
   leaves-accepted {r} {h} x e = by (reading s) (sym e ∙ x .answers) (x .index)
     where
-      by : (m : Meaning) → read.Accepted h ≡ answerOf m → ((l : Line) → m ≡ accepted l → Indexes s places rests maps l) → ReadsAs s (read.Accepted h) places rests maps m
+      by : (m : Meaning) → read.Accepted h ≡ answerOf m → ((l : Line) → m ≡ accepted l → Indexes s places rests highs maps l) → ReadsAs s (read.Accepted h) places rests highs maps m
       by (accepted l) f index = record { leaves = (f, index l refl) }
       by (refused q) f index =
           let z : _≡_ {A = ℕ} 0 1 = cc in
           absurd (omega arith)
 
-  pub leaves-refused : {r : Read} {q : Refusal} → Judged s places rests maps r → r ≡ read.Refused q
-      → ReadsAs s (read.Refused q) (replicate mostTones 0) (replicate mostTones 0) (replicate mostWords 0) (reading s)
+  pub leaves-refused : {r : Read} {q : Refusal} → Judged s places rests highs maps r → r ≡ read.Refused q
+      → ReadsAs s (read.Refused q) (replicate mostTones 0) (replicate mostTones 0) (replicate mostTones 0) (replicate mostWords 0) (reading s)
   leaves-refused {r} {q} x e = by (reading s) (sym e ∙ x .answers)
     where
-      by : (m : Meaning) → read.Refused q ≡ answerOf m → ReadsAs s (read.Refused q) (replicate mostTones 0) (replicate mostTones 0) (replicate mostWords 0) m
+      by : (m : Meaning) → read.Refused q ≡ answerOf m → ReadsAs s (read.Refused q) (replicate mostTones 0) (replicate mostTones 0) (replicate mostTones 0) (replicate mostWords 0) m
       by (accepted l) f =
           let z : _≡_ {A = ℕ} 0 1 = cc in
           absurd (omega arith)
-      by (refused q′) f = record { leaves = (f, refl, refl, refl) }
+      by (refused q′) f = record { leaves = (f, refl, refl, refl, refl) }
 
   -- ---- what a caller learns of it
 
-  pub read-line : {r : Read} {h : Header} → ReadsAs s r places rests maps (reading s) → r ≡ read.Accepted h → ReadLine s h places rests maps
+  pub read-line : {r : Read} {h : Header} → ReadsAs s r places rests highs maps (reading s) → r ≡ read.Accepted h → ReadLine s h places rests highs maps
   read-line {r} {h} x e = by (reading s) refl (x .leaves)
     where
-      by : (m : Meaning) → reading s ≡ m → Leaves s r places rests maps m → ReadLine s h places rests maps
+      by : (m : Meaning) → reading s ≡ m → Leaves s r places rests highs maps m → ReadLine s h places rests highs maps
       by (accepted l) means y = record {
         index = record { line = l; means = accepted-is today s l means .says; header-is = cc (y .0); indexes = y .1 };
         means = means;
@@ -102,34 +102,38 @@ module _ {s places rests maps : List ℕ} where
           let z : _≡_ {A = ℕ} 0 1 = cc (y .0) in
           absurd (omega arith)
 
-  pub refused-is : {r : Read} {q : Refusal} → ReadsAs s r places rests maps (reading s) → r ≡ read.Refused q → reading s ≡ refused q
+  pub refused-is : {r : Read} {q : Refusal} → ReadsAs s r places rests highs maps (reading s) → r ≡ read.Refused q → reading s ≡ refused q
   refused-is {r} {q} x e = by (reading s) (x .leaves)
     where
-      by : (m : Meaning) → Leaves s r places rests maps m → m ≡ refused q
+      by : (m : Meaning) → Leaves s r places rests highs maps m → m ≡ refused q
       by (accepted l) y =
           let z : _≡_ {A = ℕ} 0 1 = cc (y .0) in
           absurd (omega arith)
       by (refused q′) y = cc (y .0)
 
+  -- an index, for a call that goes by the low noises
+  pub at-low : {h : Header} → Indexed s h places rests highs maps → IndexedLow s h places rests maps
+  at-low x = record { highs = highs; index = x }
+
   -- ---- what an index says of its line
 
-  module _ {l : Line} (x : Indexes s places rests maps l) where
+  module _ {l : Line} (x : Indexes s places rests highs maps l) where
     pub silenced-here : (i : ℕ) → silenced (l .maps) i ≡ silenced maps i
     silenced-here i = ap (λ (m : ℕ). eqb (bit m (i % wordTones)) 1) (x .map (i / wordTones))
 
     -- what the rests add up to is what those of the line do
     pub rests-here : restTotal l ≡ restsSent s rests maps (l .size)
-    rests-here = sum-eq (l .size) (restOf l) _ (λ i h. rw (silenced-here i, x .entry i) (sent (getD places i 0) (getD rests i 0) (silenced maps i) (x .no-rest i)))
+    rests-here = sum-eq (l .size) (restOf l) _ (λ i h. rw (silenced-here i, x .entry i) (sent (getD places i 0) (getD rests i 0) (getD highs i 0) (silenced maps i) (x .no-rest i)))
       where
-        sent : (place rest : ℕ) (q : Bool) → (place ≡ 0 → rest ≡ 0) → entryRest (entryAt s place rest) q ≡ cond q 0 (restFrom s rest)
-        sent place rest true h = refl
-        sent zero rest false h = rw (h refl)
-        sent (suc p) rest false h = refl
+        sent : (place rest high : ℕ) (q : Bool) → (place ≡ 0 → rest ≡ 0) → entryRest (entryAt s place rest high) q ≡ cond q 0 (restFrom s rest)
+        sent place rest high true h = refl
+        sent zero rest high false h = rw (h refl)
+        sent (suc p) rest high false h = refl
 
     pub total-is : {size total : ℕ} → l .size ≡ size → total ≡ restsSent s rests maps size → restTotal l ≡ total
     total-is e sum-is = rests-here ∙ ap (λ (n : ℕ). restsSent s rests maps n) e ∙ sym sum-is
 
-  module _ {h : Header} (x : Indexed s h places rests maps) where
+  module _ {h : Header} (x : Indexed s h places rests highs maps) where
     pub size-is : x .line .size ≡ h .size
     size-is = ap (λ (k : Header). k .size) (x .header-is)
 
@@ -150,7 +154,7 @@ module _ {s places rests maps : List ℕ} where
       size-high = omega (arith, size-is, line-in-range .size-high)
 
   -- the size of a line that the bytes say
-  pub said-small : Bytes s → {r : Read} → ReadingEnds s r places rests maps → (h : Header) → r ≡ read.Accepted h → h .size ≤ mostTones
+  pub said-small : Bytes s → {r : Read} → ReadingEnds s r places rests highs maps → (h : Header) → r ≡ read.Accepted h → h .size ≤ mostTones
   said-small bytes x h e = size-high (said-line x e) bytes
 
 -- ---- judging the rests
@@ -166,25 +170,25 @@ not-both e f =
 
 module _ {s rests maps : List ℕ} {r : Read} where
   pub judged-refused : {q : Refusal} → r ≡ read.Refused q → JudgesRests s rests maps r (read.Refused q)
-  judged-refused e = record { of-line = λ l places f x. not-both f e; of-refusal = λ q f. sym e ∙ f }
+  judged-refused e = record { of-line = λ l places highs f x. not-both f e; of-refusal = λ q f. sym e ∙ f }
 
   module _ {h : Header} {total : ℕ} (e : r ≡ read.Accepted h) (sum-is : total ≡ restsSent s rests maps (h .size)) where
     -- what was added up is what the rests of the line do
-    line-total : (l : Line) (places : List ℕ) → headerOf l ≡ h → Indexes s places rests maps l → restTotal l ≡ total
-    line-total l places f x = total-is x (ap (λ (k : Header). k .size) f) sum-is
+    line-total : (l : Line) (places highs : List ℕ) → headerOf l ≡ h → Indexes s places rests highs maps l → restTotal l ≡ total
+    line-total l places highs f x = total-is x (ap (λ (k : Header). k .size) f) sum-is
 
     pub judged-over : h .budget < total → JudgesRests s rests maps r (read.Refused RestsOverBudget)
     judged-over over = record {
-      of-line = λ l places f x.
+      of-line = λ l places highs f x.
           let is : headerOf l ≡ h = same-header e f in
-          ap answerOf (sym (rests-over (l .budget) l (omega (arith, line-total l places is x, ap (λ (k : Header). k .budget) is))));
+          ap answerOf (sym (rests-over (l .budget) l (omega (arith, line-total l places highs is x, ap (λ (k : Header). k .budget) is))));
       of-refusal = λ q f. not-both e f;
     }
 
     pub judged-kept : total ≤ h .budget → JudgesRests s rests maps r (read.Accepted h)
     judged-kept kept = record {
-      of-line = λ l places f x.
+      of-line = λ l places highs f x.
           let is : headerOf l ≡ h = same-header e f in
-          ap read.Accepted (sym is) ∙ ap answerOf (sym (rests-kept (l .budget) l (omega (arith, line-total l places is x, ap (λ (k : Header). k .budget) is))));
+          ap read.Accepted (sym is) ∙ ap answerOf (sym (rests-kept (l .budget) l (omega (arith, line-total l places highs is x, ap (λ (k : Header). k .budget) is))));
       of-refusal = λ q f. not-both e f;
     }

@@ -11,7 +11,7 @@ use lib.ListN.{length, getD}
 use Rattle.lists.proofs.Tests.{by-test}
 use Rattle.line.specs.Line.{Line}
 use Rattle.rows.specs.declared.Command.{Command}
-use Rattle.rows.specs.declared.Command.the-variants.{End, Refused, Head, Describe, Rest, Silence}
+use Rattle.rows.specs.declared.Command.the-variants.{End, Refused, Head, Describe, Rest, High, Silence}
 use Rattle.rows.specs.Rows.{Row, width}
 use Rattle.addresses.specs.Addresses.{addressed}
 use Rattle.command.specs.Format.{Format, isTooLong}
@@ -31,6 +31,7 @@ module _ (F : Format) (s : List ℕ) (I : (at stage : ℕ) → SoFar → Type 0)
   Goes at stage x next (Head h) = I next (suc stage) (soFarAfter (Head h) s at x)
   Goes at stage x next (Describe i) = I next stage (soFarAfter (Describe i) s at x)
   Goes at stage x next (Rest i) = I next stage (soFarAfter (Rest i) s at x)
+  Goes at stage x next (High i) = I next stage (soFarAfter (High i) s at x)
   Goes at stage x next (Silence word map) = I next stage (soFarAfter (Silence word map) s at x)
 
   -- the same of the command of a row, if its byte is there, and all of its operands, which pass
@@ -55,6 +56,7 @@ module _ (F : Format) (s : List ℕ) (I : (at stage : ℕ) → SoFar → Type 0)
     after at stage x next inside (Head h) g = g
     after at stage x next inside (Describe i) g = g
     after at stage x next inside (Rest i) g = g
+    after at stage x next inside (High i) g = g
     after at stage x next inside (Silence word map) g = g
 
     -- one command

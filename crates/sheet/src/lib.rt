@@ -40,19 +40,21 @@ fn noted(notes: &[u16; TONES], tone: u16) -> u16
     0
 }
 
-// Reads the commands of a sheet one after the other, and notes where each tone's stands, where its rest's does, and which tones the maps
-// silence: what the bytes say. After a refusal the arrays are as far as it was read.
+// Reads the commands of a sheet one after the other, and notes where each tone's stands, where its rest's and its high noise's do, and
+// which tones the maps silence: what the bytes say. After a refusal the arrays are as far as it was read.
 pub fn read_commands(
     s: &[u8],
     places: &mut [u16; TONES],
     rests: &mut [u16; TONES],
+    highs: &mut [u16; TONES],
     maps: &mut [u32; WORDS],
 ) -> Read
     requires { ⌜ now places ≡ replicate mostTones 0 ⌝ }
     requires { ⌜ now rests ≡ replicate mostTones 0 ⌝ }
+    requires { ⌜ now highs ≡ replicate mostTones 0 ⌝ }
     requires { ⌜ now maps ≡ replicate mostWords 0 ⌝ }
     ensures answer { λ r. ⌜ r ≡ answerOf (said (before s)) ⌝ }
-    ensures index { λ r. ⌜ ((l : Line) → said (before s) ≡ accepted l → Indexes (before s) (after places) (after rests) (after maps) l) ⌝ }
+    ensures index { λ r. ⌜ ((l : Line) → said (before s) ≡ accepted l → Indexes (before s) (after places) (after rests) (after highs) (after maps) l) ⌝ }
 {
     let mut header = Header {
         size: 0,
@@ -65,7 +67,8 @@ pub fn read_commands(
         let tone = addresses::addressed(s, at);
         let place = noted(places, tone);
         let rested = noted(rests, tone);
-        let decoded = command::decode(s, at, stage, header, place, rested);
+        let widened = noted(highs, tone);
+        let decoded = command::decode(s, at, stage, header, place, rested, widened);
         let command = decoded.command;
         let next = decoded.next;
         match command {
@@ -82,6 +85,7 @@ pub fn read_commands(
             }
             Command::Describe(i) => places[i as usize] = at as u16,
             Command::Rest(i) => rests[i as usize] = at as u16,
+            Command::High(i) => highs[i as usize] = at as u16,
             Command::Silence(word, map) => {
                 maps[word as usize] |= map;
             }
@@ -93,7 +97,7 @@ pub fn read_commands(
 // Refusal 16, of what the bytes say: the rests of a line add up to more than its budget.
 fn judge_rests(s: &[u8], said: Read, rests: &[u16; TONES], maps: &[u32; WORDS]) -> Read
     requires { ⌜ ((h : Header) → said ≡ Accepted h → h .size ≤ mostTones) ⌝ }
-    ensures line { λ r. ⌜ ((l : Line) (places : List ℕ) → said ≡ Accepted (headerOf l) → Indexes (before s) places (before rests) (before maps) l → r ≡ answerOf (restsWithin (l .budget) l)) ⌝ }
+    ensures line { λ r. ⌜ ((l : Line) (places highs : List ℕ) → said ≡ Accepted (headerOf l) → Indexes (before s) places (before rests) highs (before maps) l → r ≡ answerOf (restsWithin (l .budget) l)) ⌝ }
     ensures refusal { λ r. ⌜ ((q : Refusal) → said ≡ Refused q → r ≡ Refused q) ⌝ }
 {
     match said {
@@ -113,20 +117,23 @@ pub fn read_sheet(
     s: &[u8],
     places: &mut [u16; TONES],
     rests: &mut [u16; TONES],
+    highs: &mut [u16; TONES],
     maps: &mut [u32; WORDS],
 ) -> Read
-    ensures { λ r. ⌜ ReadsAs (before s) r (after places) (after rests) (after maps) (reading (before s)) ⌝ }
+    ensures { λ r. ⌜ ReadsAs (before s) r (after places) (after rests) (after highs) (after maps) (reading (before s)) ⌝ }
 {
     *places = [0; TONES];
     *rests = [0; TONES];
+    *highs = [0; TONES];
     *maps = [0; WORDS];
-    let said = read_commands(s, places, rests, maps);
+    let said = read_commands(s, places, rests, highs, maps);
     let read = judge_rests(s, said, rests, maps);
     match read {
         Read::Accepted(header) => Read::Accepted(header),
         Read::Refused(refusal) => {
             *places = [0; TONES];
             *rests = [0; TONES];
+            *highs = [0; TONES];
             *maps = [0; WORDS];
             Read::Refused(refusal)
         }
@@ -162,8 +169,9 @@ pub fn check(s: &[u8]) -> Checked
 {
     let mut places: [u16; TONES] = [0; TONES];
     let mut rests: [u16; TONES] = [0; TONES];
+    let mut highs: [u16; TONES] = [0; TONES];
     let mut maps: [u32; WORDS] = [0; WORDS];
-    let read = read_sheet(s, &mut places, &mut rests, &mut maps);
+    let read = read_sheet(s, &mut places, &mut rests, &mut highs, &mut maps);
     match read {
         Read::Refused(refusal) => Checked::Refused(refusal),
         Read::Accepted(header) => {

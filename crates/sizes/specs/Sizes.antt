@@ -71,6 +71,10 @@ silenceCommand = 6
 abbrev pub restCommand : ℕ
 restCommand = 6
 
+-- W9: 'Command 0C gives tone and high noise, 2 bytes'
+abbrev pub highCommand : ℕ
+highCommand = 4
+
 abbrev pub endCommand : ℕ
 endCommand = 1
 

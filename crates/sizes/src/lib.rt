@@ -44,6 +44,8 @@ pub const SILENCE_COMMAND: usize = 6;
 
 pub const REST_COMMAND: usize = 6;
 
+pub const HIGH_COMMAND: usize = 4;
+
 pub const END_COMMAND: usize = 1;
 
 // The bytes of a tone in a written table: its bits, and its power in 8 bytes.

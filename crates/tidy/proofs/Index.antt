@@ -15,21 +15,24 @@ use Rattle.sheet.proofs.Sound.{Bytes}
 use Rattle.sheet.proofs.Uses.{size-is, line-sound, line-in-range}
 use Rattle.tidyform.specs.Tidy.{toneBytes, mapBytes, headBytes, tidy}
 use Rattle.tidyform.proofs.Length.{length-tidy}
-use Rattle.tidytones.specs.Copies.{Inside, copies}
-use Rattle.tidytones.proofs.Copies.{tone-inside, rest-inside, copies-are}
+use Rattle.tidylengths.specs.Copies.{Inside, copies}
+use Rattle.tidylengths.proofs.Copies.{tone-inside, rest-inside, high-inside, copies-are}
 use Rattle.tidy.proofs.Maps.{maps-are}
 use Rattle.tidy.proofs.Writes.{line-stores}
 
-module _ {s places rests maps : List ℕ} {h : Header} (x : Indexed s h places rests maps) where
+module _ {s places rests highs maps : List ℕ} {h : Header} (x : Indexed s h places rests highs maps) where
   pub tones-inside : (i : ℕ) → Inside s (getD places i 0)
   tones-inside i = tone-inside s i (getD places i 0) (x .indexes .stands i)
 
   pub rests-inside : (i : ℕ) → Inside s (getD rests i 0)
   rests-inside i = rest-inside s i (getD rests i 0) (x .indexes .rest-stands i)
 
+  pub highs-inside : (i : ℕ) → Inside s (getD highs i 0)
+  highs-inside i = high-inside s i (getD highs i 0) (x .indexes .high-stands i)
+
   module _ (b : Bytes s) where
-    tones-are : toneBytes (x .line .size) (x .line .entries) ≡ copies (h .size) s places rests
-    tones-are = copies-are s b (x .indexes) (line-in-range x b) (x .line .size) (omega arith) ∙ ap (λ (n : ℕ). copies n s places rests) (size-is x)
+    tones-are : toneBytes (x .line .size) (x .line .entries) ≡ copies (h .size) s places rests highs
+    tones-are = copies-are s b (x .indexes) (line-in-range x b) (x .line .size) (omega arith) ∙ ap (λ (n : ℕ). copies n s places rests highs) (size-is x)
 
     words-are : mapBytes (wordsOf (x .line .size)) (x .line .maps) ≡ mapBytes mostWords maps
     words-are = maps-are (x .line) (line-sound x b) (x .indexes)
@@ -39,14 +42,14 @@ module _ {s places rests maps : List ℕ} {h : Header} (x : Indexed s h places r
       is-line : l ≡ x .line
       is-line = cc (x .means)
 
-      pub tidy-bytes : length (tidy l) ≡ length (headBytes h) + length (copies (h .size) s places rests) + length (mapBytes mostWords maps) + endCommand
+      pub tidy-bytes : length (tidy l) ≡ length (headBytes h) + length (copies (h .size) s places rests highs) + length (mapBytes mostWords maps) + endCommand
       tidy-bytes =
           let head : length (headBytes (headerOf (x .line))) ≡ length (headBytes h) = ap (λ (k : Header). length (headBytes k)) (x .header-is) in
           rw is-line (omega (arith, length-tidy (x .line), head, ap length tones-are, ap length words-are))
 
       pub tidy-stores : (out : List ℕ)
           → (let head = headBytes h in
-          let tones = copies (h .size) s places rests in
+          let tones = copies (h .size) s places rests highs in
           let words = mapBytes mostWords maps in
           set (sets (sets (sets out 0 head) (length head) tones) (length head + length tones) words) (length head + length tones + length words) 7)
           ≡ sets out 0 (tidy l)

@@ -21,7 +21,7 @@ unfolding joinedBelow
 no-more maps n m h zeros =
     le-ind (λ (k : ℕ). mapBytes k maps ≡ mapBytes n maps) refl (λ k l e. rw (no-word k (zeros k l), append-nil (mapBytes k maps)) e) m h
 
-pub maps-are : {s places rests maps : List ℕ} (l : Line) → Sound l → Indexes s places rests maps l
+pub maps-are : {s places rests highs maps : List ℕ} (l : Line) → Sound l → Indexes s places rests highs maps l
     → mapBytes (wordsOf (l .size)) (l .maps) ≡ mapBytes mostWords maps
 maps-are {maps = maps} l S x =
     sym (no-more (l .maps) (wordsOf (l .size)) mostWords (omega (arith, S .in-range .size-high)) (λ word h. List·getD-eq-default (l .maps) 0 (omega (arith, S .maps-sized))))

@@ -1,4 +1,4 @@
-// Tidying a sheet: document 01, 'The line sheet', and document 02, W1, W5, W6 and W8.
+// Tidying a sheet: document 01, 'The line sheet', and document 02, W1, W5, W6, W8 and W9.
 mod writer;
 
 ghost use mathlib.Core.Path.{_≡_};
@@ -64,20 +64,21 @@ pub fn tidy(s: &[u8], out: &mut [u8]) -> Tidied
 {
     let mut places: [u16; TONES] = [0; TONES];
     let mut rests: [u16; TONES] = [0; TONES];
+    let mut highs: [u16; TONES] = [0; TONES];
     let mut maps: [u32; WORDS] = [0; WORDS];
-    let read = sheet::read_sheet(s, &mut places, &mut rests, &mut maps);
+    let read = sheet::read_sheet(s, &mut places, &mut rests, &mut highs, &mut maps);
     match read {
         Read::Refused(refusal) => Tidied::Refused(refusal),
         Read::Accepted(header) => {
             let gap = header.gap;
             let bytes = OTHER_BYTES
                 + gap_bytes(gap)
-                + tidytones::tones_bytes(s, header.size, &places, &rests)
+                + tidylengths::tones_bytes(s, header.size, &places, &rests, &highs)
                 + words_bytes(&maps);
             if out.len() < bytes {
                 return Tidied::Refused(Refusal::DestinationTooSmall);
             }
-            writer::put_line(out, s, header, &places, &rests, &maps);
+            writer::put_line(out, s, header, &places, &rests, &highs, &maps);
             Tidied::Length(bytes)
         }
     }

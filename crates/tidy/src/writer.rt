@@ -1,4 +1,4 @@
-// The tidy form of a line, written into a lent buffer: document 01, 'The line sheet', and document 02, W1, W5, W6 and W8.
+// The tidy form of a line, written into a lent buffer: document 01, 'The line sheet', and document 02, W1, W5, W6, W8 and W9.
 ghost use mathlib.Core.Path.{_≡_};
 ghost use Prim.Native.Nat.{_+_, _≤_};
 ghost use lib.ListN.{length};
@@ -91,14 +91,15 @@ pub(crate) fn put_line(
     header: Header,
     places: &[u16; TONES],
     rests: &[u16; TONES],
+    highs: &[u16; TONES],
     maps: &[u32; WORDS],
 )
-    requires { ⌜ Indexed (now s) header (now places) (now rests) (now maps) ⌝ }
+    requires { ⌜ Indexed (now s) header (now places) (now rests) (now highs) (now maps) ⌝ }
     requires { ⌜ ((l : Line) → said (now s) ≡ accepted l → length (tidy l) ≤ length (now out)) ⌝ }
     ensures { λ r. ⌜ ((l : Line) → said (before s) ≡ accepted l → after out ≡ sets (before out) 0 (tidy l)) ⌝ }
 {
     let header_end = put_header(out, header);
-    let tones_end = tidytones::put_tones(s, header.size, places, rests, out, header_end);
+    let tones_end = tidytones::put_tones(s, header.size, places, rests, highs, out, header_end);
     let words_end = put_words(out, tones_end, maps);
     out[words_end] = 7;
 }

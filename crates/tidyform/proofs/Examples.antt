@@ -1,5 +1,5 @@
--- Sheets read and tidied by computation: document 01's sample, one whose tones fall and whose silences stand apart, rests, and a gap of
--- 10 dB in either unit.
+-- Sheets read and tidied by computation: document 01's sample, one whose tones fall and whose silences stand apart, rests, high noises,
+-- and a gap of 10 dB in either unit.
 -- Assumes nothing.
 use mathlib.Core.Path.{_≡_, refl}
 use mathlib.Core.List.{List, [], _∷_, _++_}
@@ -14,7 +14,7 @@ use Rattle.gaps.proofs.Rule.{right, right-is}
 use Rattle.line.specs.Tone.{kindCost}
 use Rattle.line.specs.Line.{Line, tones}
 use Rattle.line.proofs.Alike.{withGap, units-differ, loads-alike}
-use Rattle.refusals.specs.declared.Refusal.the-variants.{ToneCannotTake, RestsOverBudget}
+use Rattle.refusals.specs.declared.Refusal.the-variants.{OperandOutOfRange, ToneCannotTake, RestsOverBudget}
 use Rattle.rows.specs.Rows.{rowAt}
 use Rattle.command.specs.Format.{decoded}
 use Rattle.sheet.specs.Reading.{Meaning, accepted, refused, emptyLine, readFrom, readingIn, reading}
@@ -30,7 +30,8 @@ abbrev tidied : Meaning → List ℕ
 tidied (accepted l) = tidy l
 tidied (refused r) = []
 
--- The commands of the sheets: the budget; a tone of cost 3, one of 5 and one of 1, at a gap of 1; a rest; a silence of the first word; the end.
+-- The commands of the sheets: the budget; a tone of cost 3, one of 5 and one of 1, at a gap of 1; a rest; a high noise; a silence of the
+-- first word; the end.
 abbrev budgetOf : (budget : ℕ) → List ℕ
 budgetOf budget = 3 ∷ 0 ∷ 0 ∷ 0 ∷ 0 ∷ 0 ∷ 0 ∷ 0 ∷ budget ∷ []
 
@@ -45,6 +46,9 @@ tone2 = 5 ∷ 2 ∷ 0 ∷ 1 ∷ 0 ∷ 1 ∷ 7 ∷ 0 ∷ 0 ∷ 0 ∷ 0 ∷ 0 ∷ 
 
 abbrev restOf : (tone rest : ℕ) → List ℕ
 restOf tone rest = 0x0b ∷ tone ∷ 0 ∷ 0 ∷ 0 ∷ rest ∷ []
+
+abbrev highOf : (tone high : ℕ) → List ℕ
+highOf tone high = 0x0c ∷ tone ∷ 0 ∷ high ∷ []
 
 abbrev silenceOf : (map : ℕ) → List ℕ
 silenceOf map = 6 ∷ 0 ∷ 0 ∷ 0 ∷ 0 ∷ map ∷ []
@@ -100,6 +104,24 @@ saved = begin 3 ++ tone1 ++ restOf 1 4 ++ silenceOf 2 ++ ending
 rest-silenced : tidied (reading saved) ≡ saved
 unfolding number bytes numberAt namesBeyond some kindCost rowAt decoded readFrom readingIn sum joinedBelow gapBytes headBytes tidy
 rest-silenced = refl
+
+-- ---- high noises
+
+-- W9: 'Tidying puts it after the tone's rest, and drops it where it equals the noise'; tone 1's noise is 5, tone 2's is 1
+highs-tidy : tidied (reading (begin 39 ++ tone2 ++ highOf 2 1 ++ tone1 ++ highOf 1 9 ++ restOf 1 4 ++ tone0 ++ ending))
+    ≡ begin 39 ++ tone0 ++ tone1 ++ restOf 1 4 ++ highOf 1 9 ++ tone2 ++ ending
+unfolding number bytes numberAt namesBeyond some kindCost rowAt decoded readFrom readingIn sum joinedBelow gapBytes headBytes tidy
+highs-tidy = refl
+
+-- 14, at the tone: one after another of the noise itself
+high-given-twice : reading (begin 39 ++ tone1 ++ highOf 1 5 ++ highOf 1 9 ++ ending) ≡ refused (ToneCannotTake 35)
+unfolding number numberAt kindCost rowAt decoded readFrom readingIn
+high-given-twice = refl
+
+-- 4, at the high noise: one below the noise
+high-too-low : reading (begin 39 ++ tone1 ++ highOf 1 4 ++ ending) ≡ refused (OperandOutOfRange 32)
+unfolding number numberAt kindCost rowAt decoded readFrom readingIn
+high-too-low = refl
 
 -- ---- 10 dB in parts of 256 and in tenths of a decibel
 

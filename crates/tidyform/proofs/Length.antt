@@ -15,13 +15,13 @@ use Rattle.lists.proofs.Stores.{all-same}
 use Rattle.bigendian.proofs.Numbers.{length-bytes}
 use Rattle.gaps.specs.declared.Gap.{Gap}
 use Rattle.gaps.specs.declared.Gap.the-variants.{Parts, Tenths}
-use Rattle.line.specs.Line.{Entry, undescribed, described, withRest, Line, entryOf}
+use Rattle.line.specs.Line.{Entry, undescribed, described, withRest, withHigh, Line, entryOf}
 use Rattle.rows.specs.declared.Header.{Header}
 use Rattle.rows.specs.declared.Command.the-variants.{Silence}
-use Rattle.rows.specs.Rows.{rest, width}
+use Rattle.rows.specs.Rows.{rest, high, width}
 use Rattle.sheet.specs.Reading.{headerOf, bareLine, withEntry, effect}
 use Rattle.tidyform.specs.Tidy.{tidyWidth, entryBytes, toneBytes, wordBytes, mapBytes, gapBytes, headBytes, tidy}
-use Rattle.tidyform.proofs.Parts.{length-rest-le, length-entry, length-word-le}
+use Rattle.tidyform.proofs.Parts.{length-rest-le, length-high-le, length-entry, length-word-le}
 
 -- ---- parts that the first entries of a list give, each by its number and its value
 
@@ -70,7 +70,12 @@ module _ {A : Type 0} (absent : A) (part : ℕ → A → List ℕ) where
 -- a rest adds at most its command to its tone, whatever rest the tone had
 pub rest-adds : (i r : ℕ) (e : Entry) → length (entryBytes i (withRest r e)) ≤ length (entryBytes i e) + (1 + width (rest (tidyWidth i) .operands))
 rest-adds i r undescribed = omega arith
-rest-adds i r (described t q) = omega (arith, length-entry i t r, length-entry i t q, length-rest-le i r)
+rest-adds i r (described t a) = omega (arith, length-entry i t (record { rest = r; high = a .high }), length-entry i t a, length-rest-le i r)
+
+-- and so a high noise
+pub high-adds : (i h : ℕ) (e : Entry) → length (entryBytes i (withHigh h e)) ≤ length (entryBytes i e) + (1 + width (high (tidyWidth i) .operands))
+high-adds i h undescribed = omega arith
+high-adds i h (described t a) = omega (arith, length-entry i t (record { rest = a .rest; high = h }), length-entry i t a, length-high-le i t h)
 
 -- ---- the tidy form
 

@@ -1,5 +1,5 @@
 -- Operands in range, and the commands of a tone: its own is allowed, describes the tone, and meets no refusal where the tone is in range;
--- nor does its rest's, where the tone is described and has had none.
+-- nor does its rest's, where the tone is described and has had none; nor its high noise's, where that is not the noise.
 -- Assumes nothing.
 use mathlib.Core.Path.{_≡_, refl, ap}
 use mathlib.Core.Bool.{Bool, false, true}
@@ -22,13 +22,14 @@ use Rattle.line.specs.declared.Numbers.{Numbers}
 use Rattle.line.specs.declared.Kind.{Kind}
 use Rattle.line.specs.declared.Kind.the-variants.{Pair, Single, Read}
 use Rattle.line.specs.declared.Tone.{Tone}
-use Rattle.line.specs.Tone.{mostCap, kindCost, NumbersInRange, InRange, RestInRange}
-use Rattle.line.specs.Line.{described, isDescribed}
+use Rattle.line.specs.Tone.{mostCap, kindCost, NumbersInRange, InRange, RestInRange, noiseOf, hasNoise, NoiseRange, HighInRange}
+use Rattle.line.specs.Line.{Added, described, isDescribed}
 use Rattle.line.proofs.Rested.{takes-rest}
+use Rattle.noises.specs.Noises.{entryHasNoise, entryLow}
 use Rattle.addresses.proofs.Widths.{IsWidth}
 use Rattle.rows.specs.declared.Header.{Header}
 use Rattle.rows.specs.declared.Command.the-variants.{Describe}
-use Rattle.rows.specs.Rows.{Known, Seen, Operand, takesRest, isRestOf, Row, within, toneNumber, restedTone, restOperand, float, lastFloat, map, levelsOf, ratioOf, capAndMask, numbers, rest, withCode}
+use Rattle.rows.specs.Rows.{Known, Seen, Operand, takesRest, takesHigh, isRestOf, Row, within, toneNumber, restedTone, restOperand, widenedTone, highOperand, float, lastFloat, map, levelsOf, ratioOf, capAndMask, numbers, rest, high, withCode}
 use Rattle.command.specs.Format.{today}
 use Rattle.command.proofs.Walk.{seenAt}
 use Rattle.tidyform.specs.Tidy.{readingRow, readingBits, kindRow, kindValues}
@@ -54,6 +55,14 @@ restTone {seen} w i f a b = value {seen = seen} {o = restedTone w} f (λ place. 
 
 newRest : {seen : Seen} (r : ℕ) → r < 2 ^ 32 → isRestOf (parts (seen .header .gap)) (seen .known .entry) r ≡ true → Good seen (restOperand ∷ []) (r ∷ [])
 newRest {seen} r f a = value {seen = seen} {o = restOperand} f (λ place. rw a) no-value
+
+-- a tone below N, described with a noise, that has had no high noise; and one that is not below the noise
+highTone : {seen : Seen} {os : List Operand} {vs : List ℕ} (w i : ℕ) → i < 256 ^ w → i < seen .header .size → takesHigh (seen .known) ≡ true
+    → entryHasNoise (seen .known .entry) ≡ true → Good (after seen i) os vs → Good seen (widenedTone w ∷ os) (i ∷ vs)
+highTone {seen} w i f a b c = value {seen = seen} {o = widenedTone w} f (λ place. rw (lt-leb (seen .header .size) i a, b, c))
+
+newHigh : {seen : Seen} (v : ℕ) → v ≤ 65535 → entryLow (seen .known .entry) ≤ v → Good seen (highOperand ∷ []) (v ∷ [])
+newHigh {seen} v f a = value {seen = seen} {o = highOperand} {v = v} (omega arith) (λ place. rw (le-ltb v (entryLow (seen .known .entry)) a)) no-value
 
 -- a map of 32 bits that names no tone from N on; its word stands before it
 pub newMap : {seen : Seen} (v : ℕ) → v < 2 ^ 32 → namesBeyond (seen .header .size) (getD (seen .before) 0 0) v ≡ false → Good seen (map ∷ []) (v ∷ [])
@@ -90,6 +99,9 @@ tone-found w wide (Read n) = by (n .reading)
 pub rest-found : (w : ℕ) → IsWidth w → withCode (today .rows 3) (rest w .code) ≡ some (rest w)
 rest-found w = ⊎-elim (λ e. rw e) (λ e. rw e)
 
+pub high-found : (w : ℕ) → IsWidth w → withCode (today .rows 3) (high w .code) ≡ some (high w)
+high-found w = ⊎-elim (λ e. rw e) (λ e. rw e)
+
 pub tone-does : (w : ℕ) (k : Kind) (h : Header) (vs : List ℕ) → kindRow w k .does h vs ≡ Describe (getD vs 0 0)
 tone-does w k h vs = ap (λ (r : Row). r .does h vs) (row-is w k)
 
@@ -123,7 +135,23 @@ module _ (h : Header) (known : Known) (w i : ℕ) (small : i < 256 ^ w) (of-line
 
 -- Its rest's.
 
-pub good-rest : (h : Header) (known : Known) (w i : ℕ) (t : Tone) (old r : ℕ) → i < 256 ^ w → i < h .size → known .entry ≡ described t old → known .rested ≡ false
+pub good-rest : (h : Header) (known : Known) (w i : ℕ) (t : Tone) (old : Added) (r : ℕ) → i < 256 ^ w → i < h .size → known .entry ≡ described t old → known .rested ≡ false
     → InRange (parts (h .gap)) t → RestInRange (parts (h .gap)) t r → Good (seenAt h known) (rest w .operands) (i ∷ r ∷ [])
 good-rest h known w i t old r small of-line is new I R =
     restTone w i small of-line (rw (is, new)) (newRest r (omega (arith, R .below-cost, I .cost .high)) (rw is (takes-rest (parts (h .gap)) t r R)))
+
+-- Its high noise's: one that is not the noise is of a tone with whole numbers.
+
+pub record Widens (k : Kind) (h : ℕ) : Type 0 where
+  pub has : hasNoise k ≡ true
+  pub range : NoiseRange (noiseOf k) h
+
+pub widens : (k : Kind) (h : ℕ) → HighInRange k h → (h ≡ noiseOf k → ⊥) → Widens k h
+widens (Pair n) h R other = record { has = refl; range = R }
+widens (Single n) h R other = record { has = refl; range = R }
+widens (Read n) h R other = absurd (other R)
+
+pub good-high : (h : Header) (known : Known) (w i : ℕ) (t : Tone) (old : Added) (v : ℕ) → i < 256 ^ w → i < h .size → known .entry ≡ described t old → known .widened ≡ false
+    → Widens (t .kind) v → Good (seenAt h known) (high w .operands) (i ∷ v ∷ [])
+good-high h known w i t old v small of-line is new W =
+    highTone w i small of-line (rw (is, new)) (rw is (W .has)) (newHigh v (W .range .two-bytes) (rw is (W .range .at-least)))

@@ -20,10 +20,11 @@ use Rattle.readings.specs.declared.Reading.the-variants.{Both, Ratio}
 use Rattle.line.specs.declared.Kind.{Kind}
 use Rattle.line.specs.declared.Kind.the-variants.{Pair, Single, Read}
 use Rattle.line.specs.declared.Tone.{Tone}
-use Rattle.line.specs.Line.{described}
-use Rattle.rows.specs.Rows.{describing, rest, width}
+use Rattle.line.specs.Tone.{noiseOf}
+use Rattle.line.specs.Line.{Added, described}
+use Rattle.rows.specs.Rows.{describing, rest, high, width}
 use Rattle.rows.specs.Codes.{toneOperands, silenceRow}
-use Rattle.tidyform.specs.Tidy.{written, tidyWidth, readingRow, readingBits, kindRow, kindValues, restBytes, entryBytes, wordBytes}
+use Rattle.tidyform.specs.Tidy.{written, tidyWidth, readingRow, readingBits, kindRow, kindValues, restBytes, highBytes, entryBytes, wordBytes}
 
 -- A command.
 
@@ -91,11 +92,22 @@ length-unless false command = omega arith
 pub length-rest-le : (i r : ℕ) → length (restBytes i r) ≤ 1 + width (rest (tidyWidth i) .operands)
 length-rest-le i r = le-trans (length-unless (eqb r 0) (written (rest (tidyWidth i)) (i ∷ r ∷ []))) (simp (length-append, length-bytes) (omega arith))
 
--- a described tone has its command's bytes and its rest's
-pub length-entry : (i : ℕ) (t : Tone) (r : ℕ) → length (entryBytes i (described t r)) ≡ 1 + width (kindRow (tidyWidth i) (t .kind) .operands) + length (restBytes i r)
-length-entry i t r =
+pub length-high-le : (i : ℕ) (t : Tone) (h : ℕ) → length (highBytes i t h) ≤ 1 + width (high (tidyWidth i) .operands)
+length-high-le i t h =
+    le-trans (length-unless (eqb h (noiseOf (t .kind))) (written (high (tidyWidth i)) (i ∷ h ∷ []))) (simp (length-append, length-bytes) (omega arith))
+
+-- a tone's own noise has none
+pub length-no-high : (i : ℕ) (t : Tone) → length (highBytes i t (noiseOf (t .kind))) ≡ 0
+length-no-high i t = rw (eq-eqb (noiseOf (t .kind)) (noiseOf (t .kind)) refl)
+
+-- a described tone has its command's bytes, its rest's and its high noise's
+pub length-entry : (i : ℕ) (t : Tone) (a : Added) → length (entryBytes i (described t a))
+    ≡ 1 + width (kindRow (tidyWidth i) (t .kind) .operands) + (length (restBytes i (a .rest)) + length (highBytes i t (a .high)))
+length-entry i t a =
     let command = written (kindRow (tidyWidth i) (t .kind)) (i ∷ kindValues (t .kind)) in
-    omega (arith, length-append command (restBytes i r), length-described (tidyWidth i) i (t .kind))
+    let rests = restBytes i (a .rest) in
+    let highs = highBytes i t (a .high) in
+    omega (arith, length-append command (rests ++ highs), length-append rests highs, length-described (tidyWidth i) i (t .kind))
 
 pub no-word : (word : ℕ) {map : ℕ} → map ≡ 0 → wordBytes word map ≡ []
 no-word word {map} e = rw (eq-eqb map 0 e)

@@ -11,13 +11,13 @@ use lib.ListN.{length}
 use Rattle.bigendian.specs.Number.{number}
 use Rattle.bigendian.proofs.Numbers.{number-lt}
 use Rattle.sizes.specs.Sizes.{sizeCommand, longestSheet}
-use Rattle.line.specs.Line.{Line, entryOf}
+use Rattle.line.specs.Line.{noneAdded, Line, entryOf}
 use Rattle.rows.specs.declared.Header.{Header}
-use Rattle.rows.specs.Rows.{Operand, describing, numbers, levelOperands, ratioOperands, rest, width}
+use Rattle.rows.specs.Rows.{Operand, describing, numbers, levelOperands, ratioOperands, rest, high, width}
 use Rattle.rows.specs.Codes.{silenceRow}
 use Rattle.addresses.specs.Addresses.{codeOf, shortOf, carriedAt}
 use Rattle.addresses.proofs.Widths.{IsWidth}
-use Rattle.places.specs.Places.{kindAt, toneAt, restAt}
+use Rattle.places.specs.Places.{kindAt, toneAt, restAt, highAt}
 use Rattle.command.specs.Format.{today}
 use Rattle.command.proofs.Walk.{Each, first-value}
 use Rattle.sheet.specs.Reading.{accepted, SoFar, reading}
@@ -26,8 +26,8 @@ use Rattle.sheet.proofs.Rests.{accepted-is}
 use Rattle.sheet.proofs.Sound.{Bytes, accepted-sound, accepted-fits, accepted-short}
 use Rattle.tidyform.specs.Tidy.{tidyWidth, kindRow, gapBytes, tidy}
 use Rattle.tidyform.specs.Claims.{TidyKeeps}
-use Rattle.tidyform.proofs.Parts.{tidy-least, length-entry}
-use Rattle.tidyform.proofs.Length.{length-parts, length-tenths, length-head, rest-adds, tidy-bare, tidy-entry, tidy-silence}
+use Rattle.tidyform.proofs.Parts.{tidy-least, length-no-high, length-entry}
+use Rattle.tidyform.proofs.Length.{length-parts, length-tenths, length-head, rest-adds, high-adds, tidy-bare, tidy-entry, tidy-silence}
 use Rattle.tidyform.proofs.RoundTrip.{tidy-reads}
 
 -- After so many of the first three commands the sheet has their bytes, and after all three those of its line's tidy form but for the
@@ -54,14 +54,23 @@ module _ (s : List ℕ) (b : Bytes s) where
         let i = number s (at + 1) w in
         let first = first-value i [] s (at + 1 + w) os in
         let same = ap (λ (c : ℕ). width (kindRow (tidyWidth i) (kindAt c s (carriedAt s at)) .operands)) (ap shortOf is ∙ back) ∙ widths (tidyWidth i) (carriedAt s at) in
+        let t = toneAt s at in
         rw first
-        (le-trans (tidy-entry (x .line) i _ (1 + width (describing w short os .operands)) (omega (arith, length-entry i (toneAt s at) 0, same, narrow (at + 1) w wide)))
+        (le-trans
+        (tidy-entry (x .line) i _ (1 + width (describing w short os .operands))
+        (omega (arith, length-entry i t (noneAdded t), length-no-high i t, same, narrow (at + 1) w wide)))
         (omega arith))
 
     rests : (w : ℕ) → IsWidth w → Leads today s Long NoLonger at (suc (suc (suc n))) x (rest w)
     rests w wide is inside p =
         let i = number s (at + 1) w in
         le-trans (tidy-entry (x .line) i _ (1 + width (rest (tidyWidth i) .operands)) (rest-adds i (restAt s at) (entryOf (x .line) i)))
+        (omega (arith, narrow (at + 1) w wide))
+
+    widens : (w : ℕ) → IsWidth w → Leads today s Long NoLonger at (suc (suc (suc n))) x (high w)
+    widens w wide is inside p =
+        let i = number s (at + 1) w in
+        le-trans (tidy-entry (x .line) i _ (1 + width (high (tidyWidth i) .operands)) (high-adds i (highAt s at) (entryOf (x .line) i)))
         (omega (arith, narrow (at + 1) w wide))
 
     silences : Leads today s Long NoLonger at (suc (suc (suc n))) x silenceRow
@@ -91,7 +100,7 @@ module _ (s : List ℕ) (b : Bytes s) where
                   tone 2 4 (numbers false) two refl (λ v from. refl),
                   (
                     tone 2 5 (numbers true) two refl (λ v from. refl),
-                    (tone 2 9 levelOperands two refl (λ v from. refl), (tone 2 10 ratioOperands two refl (λ v from. refl), (rests at n x h 2 two, tt))),
+                    (tone 2 9 levelOperands two refl (λ v from. refl), (tone 2 10 ratioOperands two refl (λ v from. refl), (rests at n x h 2 two, (widens at n x h 1 one, (widens at n x h 2 two, tt))))),
                   ),
                 ),
               ),

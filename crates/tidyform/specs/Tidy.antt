@@ -1,4 +1,4 @@
--- The tidy form of a line. Document 01, 'The line sheet'; document 02, W1, W5, W6 and W8.
+-- The tidy form of a line. Document 01, 'The line sheet'; document 02, W1, W5, W6, W8 and W9.
 -- Assumes nothing.
 use mathlib.Core.Bool.{cond}
 use mathlib.Core.List.{List, [], _∷_, _++_}
@@ -15,9 +15,11 @@ use Rattle.readings.specs.declared.Reading.{Reading}
 use Rattle.readings.specs.declared.Reading.the-variants.{Both, Ratio}
 use Rattle.line.specs.declared.Kind.{Kind}
 use Rattle.line.specs.declared.Kind.the-variants.{Pair, Single, Read}
+use Rattle.line.specs.declared.Tone.{Tone}
+use Rattle.line.specs.Tone.{noiseOf}
 use Rattle.line.specs.Line.{Entry, undescribed, described, Line}
 use Rattle.rows.specs.declared.Header.{Header}
-use Rattle.rows.specs.Rows.{Row, Operand, gap, tenths, budget, pair, single, levels, ratio, rest, end}
+use Rattle.rows.specs.Rows.{Row, Operand, gap, tenths, budget, pair, single, levels, ratio, rest, high, end}
 use Rattle.rows.specs.Codes.{sizeRow, silenceRow}
 use Rattle.sheet.specs.Reading.{headerOf}
 
@@ -58,10 +60,14 @@ kindValues (Read n) = readingBits (n .reading) ++ (n .cap ∷ n .mask ∷ [])
 abbrev pub restBytes : (i rest : ℕ) → List ℕ
 restBytes i r = cond (eqb r 0) [] (written (rest (tidyWidth i)) (i ∷ r ∷ []))
 
+-- W9: 'Tidying puts it after the tone's rest, and drops it where it equals the noise.'
+abbrev pub highBytes : (i : ℕ) → Tone → (high : ℕ) → List ℕ
+highBytes i t h = cond (eqb h (noiseOf (t .kind))) [] (written (high (tidyWidth i)) (i ∷ h ∷ []))
+
 -- 'the described tones in rising number'; a silenced tone stays described
 abbrev pub entryBytes : (i : ℕ) → Entry → List ℕ
 entryBytes i undescribed = []
-entryBytes i (described t r) = written (kindRow (tidyWidth i) (t .kind)) (i ∷ kindValues (t .kind)) ++ restBytes i r
+entryBytes i (described t a) = written (kindRow (tidyWidth i) (t .kind)) (i ∷ kindValues (t .kind)) ++ (restBytes i (a .rest) ++ highBytes i t (a .high))
 
 abbrev pub toneBytesAt : List Entry → (i : ℕ) → List ℕ
 toneBytesAt entries i = entryBytes i (getD entries i undescribed)

@@ -1,19 +1,16 @@
-// The commands that describe a tone and the one that gives its rest, all of whose bytes are there, from one operand to the next: document 01,
-// 'The line sheet' and 'Why a sheet is turned down', and document 02, W5, W6 and W8.
+// The commands that describe a tone, all of whose bytes are there, from one operand to the next: document 01, 'The line sheet' and 'Why a
+// sheet is turned down', and document 02, W5 and W8.
 ghost use mathlib.Core.List.{List, [], _∷_};
 ghost use mathlib.Core.Path.{_≡_};
 ghost use Prim.Native.Nat.{ℕ, _+_, _≤_};
 ghost use lib.ListN.{length};
 ghost use Rattle.sizes.specs.Sizes.{longestSheet};
 ghost use Rattle.lists.specs.Lent.{before};
-ghost use Rattle.gaps.specs.Gap.{parts};
-ghost use Rattle.line.specs.Line.{EntryInRange};
-ghost use Rattle.refusals.specs.declared.Refusal.the-variants.{FloatOutOfRange, CostOutOfRange, ToneCannotTake};
-ghost use Rattle.places.specs.Places.{entryAt};
+ghost use Rattle.refusals.specs.declared.Refusal.the-variants.{FloatOutOfRange, CostOutOfRange};
 ghost use Rattle.rows.specs.declared.Header.{Header};
 ghost use Rattle.rows.specs.declared.Command.the-variants.{Refused};
 ghost use Rattle.rows.specs.Rows.{Known, capAndMask, numbers, levelOperands, ratioOperands, width, describesFrom, rowAt};
-ghost use Rattle.rows.specs.Codes.{knownAt, toneRow, restRow};
+ghost use Rattle.rows.specs.Codes.{knownAt, toneRow};
 use readings::Levels;
 use readings::Reading;
 use refusals::Refusal;
@@ -116,7 +113,7 @@ fn from_ratio(s: &[u8], at: usize, header: Header, tone: u16) -> Command
 pub fn tone_command(s: &[u8], at: usize, code: u8, header: Header, place: u16) -> Command
     requires { ⌜ at + 1 + width (toneRow code .operands) ≤ length (now s) ⌝ }
     requires { ⌜ length (now s) ≤ longestSheet ⌝ }
-    ensures { λ r. ⌜ ((rested : ℕ) → r ≡ rowAt header (knownAt (before s) place rested) (before s) at (toneRow code)) ⌝ }
+    ensures { λ r. ⌜ ((rested widened : ℕ) → r ≡ rowAt header (knownAt (before s) place rested widened) (before s) at (toneRow code)) ⌝ }
 {
     let tone = addresses::tone_number(s, at, code);
     if header.size <= tone {
@@ -132,47 +129,4 @@ pub fn tone_command(s: &[u8], at: usize, code: u8, header: Header, place: u16) -
         10 => from_ratio(s, carried, header, tone),
         _ => from_numbers(s, carried, short == 5, tone),
     }
-}
-
-// Refusal 14, at the place of the tone.
-fn cannot_take(place: usize) -> Command
-    requires { ⌜ place ≤ longestSheet ⌝ }
-    ensures { λ r. ⌜ r ≡ Refused (ToneCannotTake place) ⌝ }
-{
-    Command::Refused(Refusal::ToneCannotTake(place as u16))
-}
-
-// The command of a byte that gives a rest, short or a twin. `place` is where its tone is described already, and `rested` where that has had a
-// rest already, or 0.
-pub fn rest_command(
-    s: &[u8],
-    at: usize,
-    code: u8,
-    header: Header,
-    place: u16,
-    rested: u16,
-) -> Command
-    requires { ⌜ at + 1 + width (restRow code .operands) ≤ length (now s) ⌝ }
-    requires { ⌜ length (now s) ≤ longestSheet ⌝ }
-    requires { ⌜ EntryInRange (parts (header .gap)) (entryAt (now s) place rested) ⌝ }
-    ensures { λ r. ⌜ r ≡ rowAt header (knownAt (before s) place rested) (before s) at (restRow code) ⌝ }
-{
-    let operand = at + 1;
-    let tone = addresses::tone_number(s, at, code);
-    if header.size <= tone {
-        return Command::Refused(Refusal::ToneBeyondLine(operand as u16));
-    }
-    if place < 1 {
-        return cannot_take(operand);
-    }
-    if 0 < rested {
-        return cannot_take(operand);
-    }
-    let carried = operand + addresses::number_width(code);
-    let rest = bigendian::number_at(s, carried, 4) as u32;
-    let gap = header.gap;
-    if !places::takes_rest(s, gaps::parts(gap), place, rest) {
-        return Command::Refused(Refusal::RestOutOfRange(carried as u16));
-    }
-    Command::Rest(tone)
 }

@@ -73,6 +73,14 @@ mod outside {
             answer: *mut u8,
             answer_length: usize,
         ) -> u64;
+        pub fn outside_guarded(
+            sheet: *const u8,
+            sheet_length: usize,
+            table: *mut u8,
+            table_length: usize,
+            answer: *mut u8,
+            answer_length: usize,
+        ) -> u64;
         pub fn outside_limits(
             sheet: *const u8,
             sheet_length: usize,
@@ -97,10 +105,11 @@ pub enum Call {
     Tidy,
     Limits,
     Budgets,
+    Guarded,
 }
 
 impl Call {
-    pub const ALL: [Call; 8] = [
+    pub const ALL: [Call; 9] = [
         Call::Check,
         Call::LoadMost,
         Call::LoadTarget,
@@ -109,6 +118,7 @@ impl Call {
         Call::Tidy,
         Call::Limits,
         Call::Budgets,
+        Call::Guarded,
     ];
 
     pub fn name(self) -> &'static str {
@@ -121,12 +131,13 @@ impl Call {
             Call::Tidy => "tidy",
             Call::Limits => "limits",
             Call::Budgets => "budgets",
+            Call::Guarded => "guarded",
         }
     }
 
     /// Whether the C host has the call.
     pub fn is_of_host(self) -> bool {
-        !matches!(self, Call::Limits | Call::Budgets)
+        !matches!(self, Call::Limits | Call::Budgets | Call::Guarded)
     }
 
     /// The name of the call's function in its archive.
@@ -138,11 +149,9 @@ impl Call {
     /// The refusals that the call can give.
     pub fn refusals(self) -> &'static [u64] {
         match self {
-            Call::Check | Call::LoadMost | Call::Tidy | Call::Limits | Call::Budgets => {
-                &[1, 2, 3, 4, 5, 6, 7, 8, 12, 13, 14, 15, 16]
-            }
             Call::LoadTarget => &[1, 2, 3, 4, 5, 6, 7, 8, 11, 12, 13, 14, 15, 16],
             Call::Refit | Call::RefitStep => &[1, 2, 3, 4, 5, 6, 7, 8, 9, 10, 12, 13, 14, 15, 16],
+            _ => &[1, 2, 3, 4, 5, 6, 7, 8, 12, 13, 14, 15, 16],
         }
     }
 
@@ -197,8 +206,14 @@ impl Call {
         let ((table, table_length), (answer, answer_length)) = (table, answer);
         match self {
             Call::Check => toqhaymi_check(sheet, sheet_length, answer, answer_length),
-            Call::LoadMost => {
-                toqhaymi_load_most(sheet, sheet_length, table, table_length, answer, answer_length)
+            Call::LoadMost | Call::Tidy | Call::Limits | Call::Guarded => {
+                let without_source = match self {
+                    Call::LoadMost => toqhaymi_load_most,
+                    Call::Tidy => toqhaymi_tidy,
+                    Call::Limits => outside_limits,
+                    _ => outside_guarded,
+                };
+                without_source(sheet, sheet_length, table, table_length, answer, answer_length)
             }
             Call::LoadTarget => toqhaymi_load_target(
                 sheet,
@@ -226,12 +241,6 @@ impl Call {
                     answer_length,
                 )
             }
-            Call::Tidy => {
-                toqhaymi_tidy(sheet, sheet_length, table, table_length, answer, answer_length)
-            }
-            Call::Limits => {
-                outside_limits(sheet, sheet_length, table, table_length, answer, answer_length)
-            }
         }
     }
 
@@ -256,6 +265,7 @@ impl Call {
             Call::Budgets => {
                 (outside_budgets as *const (), [sheet, source, table, answer].concat())
             }
+            Call::Guarded => (outside_guarded as *const (), [sheet, table, answer].concat()),
         };
         let mut words = [0; 8];
         words[..given.len()].copy_from_slice(&given);
@@ -280,6 +290,7 @@ impl Call {
             Call::Tidy => paper::tidy(sheet, destination, answer),
             Call::Limits => paper::limits(sheet, destination, answer),
             Call::Budgets => paper::budgets::one_by_one(sheet, source, destination, answer),
+            Call::Guarded => paper::guarded::guarded(sheet, destination, answer),
         }
     }
 }

@@ -3,7 +3,7 @@
 use crate::calls::{self, Call, Outcome};
 use crate::inputs::{input, Input, SAMPLE_INPUTS};
 use crate::paper::line::LARGEST_SHEET;
-use crate::{budgets, limits, totals};
+use crate::{budgets, guarded, limits, totals};
 
 /// One input of one call.
 #[derive(Clone, Copy, PartialEq, Eq)]
@@ -68,6 +68,7 @@ fn judge(call: Call, input: &Input, outcome: &Outcome) -> Result<(), String> {
         Call::Check | Call::Tidy => Ok(()),
         Call::Limits => limits::judge(input, outcome),
         Call::Budgets => budgets::judge(input, outcome),
+        Call::Guarded => guarded::judge(input, outcome),
         _ => totals::judge(call, input, outcome),
     }
 }

@@ -6,11 +6,11 @@ use crate::paper::line::{read_bytes, Command, Given, Kind, Tone};
 use crate::paper::line::{LARGEST_POWER, LARGEST_SHEET, TONES, TWIN};
 use crate::paper::reading::{Reading, LARGEST_COST};
 use crate::random::Random;
-use crate::sheets::{commands, describes, describes_a_tone, description, fill, largest_rest};
-use crate::sheets::{named, reading, rest, silence, some_silence, tone, whole_gap};
-use crate::sheets::{Commands, Name};
+use crate::sheets::{commands, describes, describes_a_tone, description, fill, high_noise};
+use crate::sheets::{largest_rest, named, reading, rest, silence, some_silence, tone};
+use crate::sheets::{whole_gap, Commands, Name};
 
-pub const WAYS: usize = 25;
+pub const WAYS: usize = 27;
 
 /// A sheet damaged in one of the ways; any byte string, in some of them.
 pub fn damaged(random: &mut Random, way: usize) -> Vec<u8> {
@@ -34,6 +34,7 @@ pub fn damaged(random: &mut Random, way: usize) -> Vec<u8> {
         21 => return rests_at_budget(random, commands),
         22 => another_width(random, &mut commands),
         23 => another_number(random, &mut commands),
+        24 | 25 => _ = high_noise_at_fault(random, &mut commands),
         _ => return twice(random, commands),
     }
     commands.concat()
@@ -81,7 +82,7 @@ fn appended(random: &mut Random, mut sheet: Vec<u8>) -> Vec<u8> {
     let count = random.pick(&[1, 1, 2, 15, 200]);
     let any = random.bytes(count);
     match random.below(3) {
-        0 => sheet.extend(vec![random.pick(&[0, 4, 6, 7, 8, 9, 10, 11, 0x14, 0x1b]); count]),
+        0 => sheet.extend(vec![random.pick(&[0, 4, 6, 7, 8, 9, 10, 11, 12, 0x14, 0x1b]); count]),
         1 => sheet.extend(sheet.clone()),
         _ => sheet.extend(any),
     }
@@ -103,7 +104,8 @@ fn out_of_order(random: &mut Random, commands: &mut Commands) {
         _ => {
             // No command, or one that is not whole.
             let any = random.below(256) as u8;
-            let byte = random.pick(&[0, 8, 9, 10, 11, 12, 0x11, 0x16, 0x17, 0x18, 0x19, any, any]);
+            let byte =
+                random.pick(&[0, 8, 9, 11, 12, 13, 0x11, 0x16, 0x17, 0x18, 0x19, 0x1d, any, any]);
             commands.insert(random.below(commands.len()), vec![byte]);
         }
     }
@@ -173,13 +175,14 @@ fn beyond(random: &mut Random, commands: &mut Commands) -> usize {
     put(random, commands, new)
 }
 
-/// The commands that describe a tone or give its rest go.
+/// The commands that describe a tone or give its rest or high noise go.
 fn forget(commands: &mut Commands, number: usize) {
     commands.retain(|command| named(command) != Some(number));
 }
 
-/// Puts in a command that gives no rest. If it describes a tone, the tone's own description
-/// goes, so that it is not a repeat, and so does its rest. Its place.
+/// Puts in a command that gives no rest and no high noise. If it describes a tone, the tone's
+/// own description goes, so that it is not a repeat, and so do its rest and high noise. Its
+/// place.
 fn put(random: &mut Random, commands: &mut Commands, new: Vec<u8>) -> usize {
     if let Some(number) = named(&new) {
         forget(commands, number);
@@ -256,6 +259,30 @@ fn silence_tone(random: &mut Random, commands: &mut Commands, number: usize) {
     commands.insert(place, silence((number / 32) as u8, 1 << (number % 32)));
 }
 
+/// The place for a command that comes after its tone's description: sound, or before that, or
+/// where the tone is not described at all, or after another like it, which is put in.
+fn place_after_tone(
+    random: &mut Random,
+    commands: &mut Commands,
+    number: usize,
+    another: Vec<u8>,
+) -> usize {
+    let next = after_tone(commands, number);
+    match random.below(6) {
+        0 => 3 + random.below(next - 3),
+        1 => {
+            forget(commands, number);
+            gap_between(random, commands)
+        }
+        2 | 3 => {
+            let first = place_from(random, commands, next);
+            commands.insert(first, another);
+            place_from(random, commands, first + 1)
+        }
+        _ => place_from(random, commands, next),
+    }
+}
+
 /// A rest at an end of what its tone can have, or beyond it; or the tone is not described
 /// where it stands, or has had one. Some tones are silenced. The place of its command.
 fn rest_at_fault(random: &mut Random, commands: &mut Commands) -> usize {
@@ -266,22 +293,29 @@ fn rest_at_fault(random: &mut Random, commands: &mut Commands) -> usize {
     let (cost, most) = (tone.cost(gap(commands)), largest_rest(&tone, gap(commands)));
     let beyond = random.pick(&[cost, cost + 1, tone.mask + 1, 1 << 24, u32::MAX.into()]);
     let value = random.pick(&[0, most, most + 1, cost, beyond]).min(u32::MAX.into()) as u32;
-    let next = after_tone(commands, number);
-    let place = match random.below(6) {
-        0 => 3 + random.below(next - 3),
-        1 => {
-            forget(commands, number);
-            gap_between(random, commands)
-        }
-        2 | 3 => {
-            let first = place_from(random, commands, next);
-            let name = Name::any(random, number);
-            commands.insert(first, rest(name, random.pick(&[0, most as u32])));
-            place_from(random, commands, first + 1)
-        }
-        _ => place_from(random, commands, next),
-    };
+    let another = rest(Name::any(random, number), random.pick(&[0, most as u32]));
+    let place = place_after_tone(random, commands, number, another);
     commands.insert(place, rest(Name::any(random, number), value));
+    place
+}
+
+/// A high noise at an end of what its tone can have, or below it; or the tone is a reading, is
+/// not described where it stands, or has had one. Some tones are silenced. The place of its
+/// command.
+fn high_noise_at_fault(random: &mut Random, commands: &mut Commands) -> usize {
+    let (number, tone) = another_tone(random, commands);
+    if random.once_in(4) {
+        silence_tone(random, commands, number);
+    }
+    let noise = match tone.given {
+        Given::Whole { noise, .. } => noise,
+        Given::Read(_) => random.pick(&[1, 300]),
+    };
+    let more = noise.saturating_add(1);
+    let value = random.pick(&[0, 0, noise - 1, noise - 1, noise, more, u16::MAX]);
+    let another = high_noise(Name::any(random, number), random.pick(&[noise, more, u16::MAX]));
+    let place = place_after_tone(random, commands, number, another);
+    commands.insert(place, high_noise(Name::any(random, number), value));
     place
 }
 
@@ -395,9 +429,10 @@ fn not_on_line(random: &mut Random, commands: &mut Commands) -> usize {
     let far = random.pick(&[255, 256, TONES - 1, TONES, 65_535]);
     let number = random.pick(&[first, first, first.max(far)]);
     let map = 1 << (number % 32) | random.pick(&[0, 1, u32::MAX]);
-    let new = match random.below(5) {
+    let new = match random.below(6) {
         0 => rest(Name::any(random, number), random.pick(&[0, u32::MAX])),
-        3 | 4 if number < TONES => silence((number / 32) as u8, map),
+        1 => high_noise(Name::any(random, number), random.pick(&[0, u16::MAX])),
+        4 | 5 if number < TONES => silence((number / 32) as u8, map),
         _ => described(random, number, true),
     };
     let place = gap_between(random, commands);
@@ -412,7 +447,7 @@ fn any_bytes(random: &mut Random) -> Vec<u8> {
     if random.once_in(2) {
         sheet[0] = 1;
     } else if random.once_in(2) {
-        sheet.iter_mut().for_each(|byte| *byte %= 0x1c);
+        sheet.iter_mut().for_each(|byte| *byte %= 0x1d);
     }
     sheet
 }
@@ -433,13 +468,14 @@ fn too_long(random: &mut Random, mut commands: Commands) -> Vec<u8> {
 
 /// The sheet ends inside a command, whose operands so far may be at fault.
 fn cut_in_command(random: &mut Random, mut commands: Commands) -> Vec<u8> {
-    let place = match random.below(9) {
+    let place = match random.below(10) {
         0 | 1 => beyond(random, &mut commands),
         2 => repeated(random, &mut commands),
         3 => not_on_line(random, &mut commands),
         4 | 5 => reading_at_fault(random, &mut commands),
         6 => rest_at_fault(random, &mut commands),
-        7 => random.below(3),
+        7 => high_noise_at_fault(random, &mut commands),
+        8 => random.below(3),
         _ => random.below(commands.len()),
     };
     let last = &commands[place];
@@ -456,7 +492,7 @@ fn cut_in_command(random: &mut Random, mut commands: Commands) -> Vec<u8> {
 fn twice(random: &mut Random, mut commands: Commands) -> Vec<u8> {
     for _ in 0..2 {
         let place = gap_between(random, &commands);
-        match random.below(9) {
+        match random.below(10) {
             0 => commands.insert(place, vec![random.pick(&[0, 1, 8])]),
             1 => {
                 let tones = random.pick(&[256, TONES]);
@@ -468,6 +504,7 @@ fn twice(random: &mut Random, mut commands: Commands) -> Vec<u8> {
             5 => _ = reading_at_fault(random, &mut commands),
             6 => _ = rest_at_fault(random, &mut commands),
             7 => budget_of_rests(random, &mut commands),
+            8 => _ = high_noise_at_fault(random, &mut commands),
             _ => _ = beyond(random, &mut commands),
         }
     }
@@ -653,6 +690,86 @@ mod tests {
         assert_shown(counts, &FAULTS_OF_RESTS);
     }
 
+    /// The high noise that a sheet, sound up to a place, gives a tone before it, if it does.
+    fn high_noise_before(sheet: &[u8], at: usize, number: usize) -> Option<u16> {
+        let (mut found, mut place) = (None, 0);
+        while place < at {
+            let end = place + command_at(sheet, place).length();
+            if command_at(sheet, place).short == 12 && named(&sheet[place..]) == Some(number) {
+                found = Some(u16::from_be_bytes([sheet[end - 2], sheet[end - 1]]));
+            }
+            place = end;
+        }
+        found
+    }
+
+    /// What a refused high noise shows: the refusal, and of 14 and 4 why.
+    fn shown_of_high_noise(sheet: &[u8], refusal: Refusal) -> Option<String> {
+        let at = command_of(sheet, refusal.place);
+        let command = command_at(sheet, at);
+        if command.short != 12 {
+            return None;
+        }
+        let number = named(&sheet[at..]).expect("a tone");
+        let end = at + command.length();
+        let high = u16::from_be_bytes([sheet[end - 2], sheet[end - 1]]);
+        let line = read_bytes(&[&sheet[..at], &[7]].concat()).expect("it is sound up to there");
+        let (name, twin) = shown_at(refusal, at, command);
+        let noise = match line.described.get(number) {
+            Some(Some(Tone { given: Given::Whole { noise, .. }, .. })) => *noise,
+            _ => 0,
+        };
+        let first = high_noise_before(sheet, at, number);
+        let more = [
+            (first == Some(noise), ", after one of the noise"),
+            (first.is_some_and(|first| first > noise), ", after another"),
+            (noise > 0 && high == noise, ", of the noise"),
+            (noise > 0 && high < noise, ", below the noise"),
+            (noise > 0 && high + 1 == noise, " by 1"),
+            (noise == 0 && high == 0, ", of 0"),
+            (number < line.tones && line.is_silenced(number), ", silenced"),
+        ];
+        let more = more.into_iter().filter(|(is, _)| *is).map(|(_, more)| more);
+        Some(more.fold(name, |name, more| name + more) + twin)
+    }
+
+    const FAULTS_OF_HIGH_NOISES: [&str; 17] = [
+        "5 at byte 1 of 0c",
+        "5 at byte 1 of 0c, of 0",
+        "14 at byte 1 of 0c",
+        "14 at byte 1 of 0c, of 0",
+        "14 at byte 1 of 0c, after one of the noise",
+        "14 at byte 1 of 0c, after one of the noise, of the noise",
+        "14 at byte 1 of 0c, after one of the noise, below the noise by 1",
+        "14 at byte 1 of 0c, after another",
+        "14 at byte 1 of 0c, after another, of the noise",
+        "14 at byte 1 of 0c, after another, below the noise",
+        "14 at byte 1 of 0c, after another, below the noise by 1",
+        "4 at byte 1 of 0c",
+        "4 at byte 1 of 0c, of 0",
+        "4 at byte 1 of 0c, silenced",
+        "4 at byte 2 of 0c, below the noise",
+        "4 at byte 2 of 0c, below the noise by 1",
+        "4 at byte 2 of 0c, below the noise by 1, silenced",
+    ];
+
+    /// High noises are refused in every way.
+    #[test]
+    fn every_fault_of_a_high_noise() {
+        let mut counts = BTreeMap::new();
+        for index in 0..SHEETS {
+            let sheet = damaged(&mut Random::new(1, index), index as usize % WAYS);
+            match read_bytes(&sheet) {
+                Err(refusal) if matches!(refusal.number, 4 | 5 | 14) => {
+                    let shown = shown_of_high_noise(&sheet, refusal);
+                    *counts.entry(shown.unwrap_or_default()).or_insert(0) += 1;
+                }
+                _ => {}
+            }
+        }
+        assert_shown(counts, &FAULTS_OF_HIGH_NOISES);
+    }
+
     /// Whether a sheet that is accepted has more rests, up to some command, than budget.
     fn saved_by_a_silence(sheet: &[u8]) -> bool {
         let mut at = 0;
@@ -691,9 +808,9 @@ mod tests {
         assert!(counts.iter().all(|&count| count > 20), "{counts:?}");
     }
 
-    /// Sheets end before every byte of a reading, and of a rest.
+    /// Sheets end before every byte of a reading, of a rest and of a high noise.
     #[test]
-    fn cut_inside_readings_and_rests() {
+    fn cut_inside_commands() {
         let mut lengths = BTreeMap::new();
         for index in 0..SHEETS {
             let mut random = Random::new(1, index);
@@ -706,7 +823,7 @@ mod tests {
             *lengths.entry((sheet[at], sheet.len() - at)).or_insert(0) += 1;
         }
         let all = |byte: u8| (1..command_at(&[byte], 0).length()).map(move |length| (byte, length));
-        for due in [9, 10, 11, 0x19, 0x1a, 0x1b].into_iter().flat_map(all) {
+        for due in [9, 10, 11, 12, 0x19, 0x1a, 0x1b, 0x1c].into_iter().flat_map(all) {
             assert!(lengths.get(&due).is_some_and(|&count| count > 3), "{due:?}: {lengths:?}");
         }
     }

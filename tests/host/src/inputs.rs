@@ -1,8 +1,8 @@
 //! What a call is given: sheet, starting table, target, list of budgets and buffer
 //! lengths, all from a seed and an index. Seed 0 is the sample sheet of document 01, then
-//! one with its gap in tenths of a decibel, one with readings, one with rests, one of 1,024
-//! tones with twins, and then a list of budgets, each with one byte changed, cut off or
-//! added, in every way; other seeds are random.
+//! one with its gap in tenths of a decibel, one with readings, one with rests, one with high
+//! noises, one of 1,024 tones with twins, and then a list of budgets, each with one byte
+//! changed, cut off or added, in every way; other seeds are random.
 
 use crate::damage::{damaged, WAYS};
 use crate::lists::{powers, to_bytes, Around};
@@ -11,9 +11,9 @@ use crate::paper::line::{read_bytes, Line, LARGEST_POWER, TONES};
 use crate::paper::run::Running;
 use crate::paper::{tidy_length, ANSWER_BYTES, BYTES_A_LIMIT, BYTES_A_TONE};
 use crate::random::Random;
-use crate::sheets::{commands, IN_TENTHS, READINGS, RESTS, SAMPLE, TWINS};
+use crate::sheets::{commands, IN_TENTHS, RANGES, READINGS, RESTS, SAMPLE, TWINS};
 
-#[derive(Clone)]
+#[derive(Clone, Default)]
 pub struct Input {
     pub sheet: Vec<u8>,
     pub start: Vec<u8>,
@@ -46,7 +46,7 @@ const START_OF_TWINS: [u8; TONES] = {
     start
 };
 
-const SAMPLES: [Sample; 5] = [
+const SAMPLES: [Sample; 6] = [
     Sample { sheet: &SAMPLE, start: &[0, 2, 3], target: 6, list: [2, 38, 39, 39, LARGEST_POWER] },
     Sample {
         sheet: &IN_TENTHS,
@@ -68,6 +68,8 @@ const SAMPLES: [Sample; 5] = [
         target: 3,
         list: [66_061, 66_062, 262_143, 262_144, LARGEST_POWER],
     },
+    // The budgets begin with the rest.
+    Sample { sheet: &RANGES, start: &[0, 2, 3], target: 4, list: [1, 29, 30, 38, LARGEST_POWER] },
     // The target and the re-fit leave tone 1,023 at no bits, by its number alone. The
     // budgets begin with the sum of the rests.
     Sample { sheet: &TWINS, start: &START_OF_TWINS, target: 2, list: [4, 6, 7, 10, LARGEST_POWER] },
@@ -339,7 +341,7 @@ mod tests {
             let of = |command: &&&[u8]| is_twin(command) == twin;
             commands.iter().filter(of).any(|command| named(command).is_some_and(|tone| tone < 256))
         };
-        let rest = |byte: u8| {
+        let later = |byte: u8| {
             let other = |place| follows(&commands[..place], commands[place], &DESCRIBE);
             (0..commands.len()).any(|place| commands[place][0] == byte && other(place))
         };
@@ -353,10 +355,13 @@ mod tests {
             ("19", has(0x19)),
             ("1A", has(0x1a)),
             ("1B", has(0x1b)),
+            ("1C", has(0x1c)),
             ("a twin below 256", low(true)),
             ("both below 256", low(true) && low(false)),
-            ("0B of a tone by a twin", rest(0x0b)),
-            ("1B of a tone by a short command", rest(0x1b)),
+            ("0B of a tone by a twin", later(0x0b)),
+            ("1B of a tone by a short command", later(0x1b)),
+            ("0C of a tone by a twin", later(0x0c)),
+            ("1C of a tone by a short command", later(0x1c)),
             ("a tone from 256 on", line.described.iter().skip(256).any(Option::is_some)),
             ("tone 1,023", line.described.get(1023).is_some_and(Option::is_some)),
             ("a silenced tone from 256 on", silences(8)),
@@ -374,9 +379,10 @@ mod tests {
         let (commands, end) = whole(&sheet[..place.min(sheet.len())]);
         let rest = &sheet[end..];
         let twin = number > 1 && number != 7 && !rest.is_empty() && is_twin(rest);
-        let again = |of: u32, twin, shorts| {
-            number == of && is_twin(rest) == twin && follows(&commands, rest, shorts)
-        };
+        let again =
+            |twin| number == 6 && is_twin(rest) == twin && follows(&commands, rest, &DESCRIBE);
+        let second =
+            |byte: u8| number == 14 && rest[0] == byte && follows(&commands, rest, &[byte % TWIN]);
         vec![
             ("1 at 32,769 bytes", number == 1 && sheet.len() == LARGEST_SHEET + 1),
             ("2 between the bytes of a tone", number == 2 && twin && rest.len() == 2),
@@ -384,16 +390,19 @@ mod tests {
             ("4 by word 32", number == 4 && rest[..2] == [6, 32]),
             ("4 in a twin", number == 4 && twin),
             ("5 in a twin", number == 5 && twin),
-            ("5 in a twin of 1B", number == 5 && rest[0] == 0x1b),
+            ("5 in 1B", number == 5 && rest[0] == 0x1b),
+            ("5 in 1C", number == 5 && rest[0] == 0x1c),
             ("5 by a word from 8 on", number == 5 && rest[0] == 6 && rest[1] >= 8),
             ("6 in a twin", number == 6 && twin),
-            ("6 in a twin after a short command", again(6, true, &DESCRIBE)),
-            ("6 in a short command after a twin", again(6, false, &DESCRIBE)),
+            ("6 in a twin after a short command", again(true)),
+            ("6 in a short command after a twin", again(false)),
             ("12 in a twin", number == 12 && twin),
             ("13 in a twin", number == 13 && twin),
             ("14 in a twin", number == 14 && twin),
-            ("14 in 1B after 0B", again(14, true, &[11])),
-            ("14 in 0B after 1B", again(14, false, &[11])),
+            ("14 in 1B after 0B", second(0x1b)),
+            ("14 in 0B after 1B", second(0x0b)),
+            ("14 in 1C after 0C", second(0x1c)),
+            ("14 in 0C after 1C", second(0x0c)),
             ("15 in a twin", number == 15 && twin),
         ]
     }
@@ -413,7 +422,7 @@ mod tests {
                 *counts.entry(sort).or_insert(0) += u32::from(is);
             }
         }
-        let all = counts.len() == 35 && counts.values().all(|&count| count > 5);
+        let all = counts.len() == 41 && counts.values().all(|&count| count > 5);
         assert!(all, "sheets: {counts:#?}");
     }
 

@@ -7,6 +7,7 @@ mod damage;
 mod documents;
 mod floats;
 mod guard;
+mod guarded;
 mod inputs;
 mod limits;
 mod lists;
@@ -14,6 +15,7 @@ mod named;
 mod paper;
 mod program;
 mod random;
+mod ranges;
 mod sheets;
 mod speed;
 mod stack;
@@ -33,7 +35,7 @@ fn number(word: &str) -> Result<u64, String> {
 
 fn call(word: &str) -> Result<Call, String> {
     let call = Call::ALL.into_iter().find(|call| call.name() == word);
-    call.ok_or_else(|| format!("'{word}' is not one of the eight calls"))
+    call.ok_or_else(|| format!("'{word}' is not one of the nine calls"))
 }
 
 fn run(words: &[&str]) -> Result<String, String> {
@@ -49,9 +51,11 @@ fn run(words: &[&str]) -> Result<String, String> {
             program::example(Path::new(program), &path)?;
             program::printed_for(&path)
         }
+        ["one", _, "ranges", index] => ranges::one(number(index)?),
         ["one", _, name, seed, index] => {
             compare::one(Which { call: call(name)?, seed: number(seed)?, index: number(index)? })
         }
+        ["ranges"] => ranges::compare(),
         ["printed", path] => program::printed_for(Path::new(path)),
         ["speed"] => Ok(speed::table()),
         ["stack", most] => speed::stack(number(most)?),

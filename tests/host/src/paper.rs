@@ -1,11 +1,15 @@
-//! An independent loader, written from document 01 and document 02's requests W1, W3,
-//! W5, W6, W7 and W8: the six calls as the C host makes them, the limits and many budgets by
-//! its conventions, and what the bench program prints. It keeps each tone's next free and
-//! last held step; each move scans all of them for the earliest free and the latest held.
+//! An independent loader, written from document 01 and document 02's requests W1, W3 and W5
+//! to W9: the six calls as the C host makes them, the limits, many budgets and the guarded
+//! loading by its conventions, and what the bench program prints. It keeps each tone's next
+//! free and last held step; each move scans all of them for the earliest free and the latest
+//! held.
 
 pub mod budgets;
 pub mod gap;
+pub mod guarded;
 pub mod line;
+#[cfg(test)]
+mod ranges;
 pub mod reading;
 pub mod run;
 #[cfg(test)]
@@ -175,6 +179,13 @@ impl Tidy<'_> {
         }
     }
 
+    fn put_high_noise(&mut self, number: usize, high: Option<u16>) {
+        if let Some(high) = high {
+            self.put_command(12, number);
+            self.put(&high.to_be_bytes());
+        }
+    }
+
     fn put_line(&mut self, line: &Line) {
         self.put(&[1]);
         self.put(&(line.tones as u16).to_be_bytes());
@@ -185,6 +196,7 @@ impl Tidy<'_> {
             if let Some(tone) = tone {
                 self.put_tone(number, tone);
                 self.put_rest(number, line.rests[number]);
+                self.put_high_noise(number, line.high_noises[number]);
             }
         }
         for (word, map) in line.silenced.iter().enumerate() {
@@ -205,6 +217,9 @@ pub fn tidy_length(line: &Line) -> usize {
         length += Command::shortest(tone.short(), number).length();
         if line.rests[number] != 0 {
             length += Command::shortest(11, number).length();
+        }
+        if line.high_noises[number].is_some() {
+            length += Command::shortest(12, number).length();
         }
     }
     length

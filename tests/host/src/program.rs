@@ -8,7 +8,7 @@ use crate::paper::printed;
 use crate::paper::reading::Reading;
 use crate::random::Random;
 use crate::sheets::{bare, reading, rest, silence, tone};
-use crate::sheets::{IN_TENTHS, READINGS, RESTS, SAMPLE, TWINS};
+use crate::sheets::{IN_TENTHS, RANGES, READINGS, RESTS, SAMPLE, TWINS};
 use std::io::{ErrorKind, Write};
 use std::path::{Path, PathBuf};
 use std::process::{Command, Stdio};
@@ -29,7 +29,7 @@ const EXAMPLES: [&str; 8] = [
     "tracked_tones",
 ];
 /// Sheets that any comparison should have, before the random ones.
-const FIXED: u64 = 27;
+const FIXED: u64 = 30;
 
 /// A sheet as long as one that is accepted can be: 32,768 bytes, or 32,767 where the
 /// gap is in tenths.
@@ -111,6 +111,10 @@ fn sheet(index: u64) -> Vec<u8> {
         // It ends between the bytes of a tone.
         25 => TWINS[..17].to_vec(),
         26 => [&[1, 4, 1], &TWINS[3..]].concat(),
+        27 => RANGES.to_vec(),
+        // It ends inside a high noise, and has one below the noise.
+        28 => RANGES[..33].to_vec(),
+        29 => [&RANGES[..33], &[2], &RANGES[34..]].concat(),
         FIXED.. => inputs::sheet(&mut Random::new(SEED, index), index),
     }
 }

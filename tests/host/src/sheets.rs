@@ -63,6 +63,17 @@ pub const TWINS: [u8; 103] = [
     0x19, 3, 254, 0x40, 0xc0, 0, 0, 0x40, 0, 0, 0, 9, 0, 0, 0, 0, 0, 0, 0, 100, 7,
 ];
 
+/// A sheet with high noises by either command of 0C, one of them before its tone's rest. The
+/// budget carries two bits on tone 0 at either noise, one on tone 1, and on tone 2 two, but
+/// one where the noises are high.
+pub const RANGES: [u8; 77] = [
+    1, 0, 3, 2, 1, 0, 3, 0, 0, 0, 0, 0, 0, 0, 38, //
+    4, 0, 0, 3, 0, 1, 15, 0, 0, 0, 0, 0, 0, 0, 100, 12, 0, 0, 5, //
+    0x15, 0, 1, 0, 2, 0, 1, 7, 0, 0, 0, 0, 0, 0, 0, 100, //
+    10, 2, 0x40, 0xa0, 0, 0, 15, 0, 0, 0, 0, 0, 0, 0, 100, //
+    0x1c, 0, 1, 0, 3, 11, 1, 0, 0, 0, 1, 7,
+];
+
 /// How the tones of one line compare.
 #[derive(Clone, Copy)]
 enum Likeness {
@@ -93,6 +104,8 @@ struct Plan {
     /// where they can.
     rests: usize,
     first_step: u64,
+    /// How many tones in four have a high noise, if they are not readings.
+    ranges: usize,
     /// How many commands in four that name a tone below 256 are twins.
     twins: usize,
 }
@@ -169,23 +182,30 @@ impl Plan {
         use Likeness::*;
         let likeness = random.pick(&[Equal, Ties, Ties, Cable, Edges, Any]);
         let small = random.pick(&[1, 1, 2, 3, 4, 6]);
-        // All by 09 and with a rest, so that the sheet is as long as a line can make it.
-        let longest = tones == TONES && random.once_in(6);
+        // Full lines by the longest commands: all by 09, or all by 04 or 05 with a high noise,
+        // and with a rest.
+        let longest = (tones == TONES).then(|| random.below(6));
+        let (of_09, of_0c) = (longest == Some(0), longest == Some(1));
         Plan {
             tones,
             gap: some_gap(random, matches!(likeness, Ties)),
             likeness,
             equal: random.pick(&[(17, 5), (1, 1), (65_535, 1), (1, 65_535)]),
             singles: random.pick(&[0, 1, 2, 4]),
-            readings: if longest { 4 } else { random.pick(&[0, 0, 1, 2, 4]) },
-            ratios: if longest { 0 } else { random.pick(&[0, 2, 4]) },
+            readings: match longest {
+                Some(0) => 4,
+                Some(1) => 0,
+                _ => random.pick(&[0, 0, 1, 2, 4]),
+            },
+            ratios: if of_09 { 0 } else { random.pick(&[0, 2, 4]) },
             tight_caps: random.once_in(3),
             tight_masks: random.once_in(2),
-            rests: if longest { 4 } else { random.pick(&[0, 0, 0, 1, 2, 4, 4]) },
+            rests: if of_09 || of_0c { 4 } else { random.pick(&[0, 0, 0, 1, 2, 4, 4]) },
             first_step: match likeness {
                 Ties => small,
                 _ => random.sized(LARGEST_COST).max(1),
             },
+            ranges: if of_0c { 4 } else { random.pick(&[0, 0, 1, 2, 4]) },
             twins: random.pick(&[0, 0, 0, 0, 1, 2, 4]),
         }
     }
@@ -238,14 +258,29 @@ impl Plan {
         }
     }
 
-    fn tone(&self, random: &mut Random, number: usize) -> Tone {
+    fn kind_and_given(&self, random: &mut Random, number: usize) -> (Kind, Given) {
         let (noise, gain) = self.noise_and_gain(random, number);
         let single = random.below(4) < self.singles;
-        let (kind, given) = match random.below(4) < self.readings {
+        match random.below(4) < self.readings {
             true => (Kind::Pair, Given::Read(self.reading(random, noise, gain))),
             false if single => (Kind::Single, Given::Whole { noise, gain }),
             false => (Kind::Pair, Given::Whole { noise, gain }),
-        };
+        }
+    }
+
+    /// The high noise of a tone, if it is to have one and can.
+    fn high_noise(&self, random: &mut Random, given: Given) -> Option<u16> {
+        match given {
+            Given::Whole { noise, .. } if random.below(4) < self.ranges => {
+                Some(some_high_noise(random, noise))
+            }
+            _ => None,
+        }
+    }
+
+    /// A tone and its high noise. Where there is one, the mask goes by either noise.
+    fn tone(&self, random: &mut Random, number: usize) -> (Tone, Option<u16>) {
+        let (kind, given) = self.kind_and_given(random, number);
         let most = if kind == Kind::Single { 7 } else { 15 };
         let cap = match random.below(4) {
             0 if self.tight_caps => 0,
@@ -253,9 +288,16 @@ impl Plan {
             2 => random.between(0, u64::from(most)) as u8,
             _ => most,
         };
+        let high = self.high_noise(random, given);
+        let by = match (given, high) {
+            (Given::Whole { gain, .. }, Some(noise)) if random.once_in(2) => {
+                Given::Whole { noise, gain }
+            }
+            _ => given,
+        };
         let tone = Tone { kind, given, cap, mask: 0 };
-        let mask = self.mask(random, kind, tone.cost(self.gap.value()), most);
-        Tone { mask, ..tone }
+        let cost = Tone { given: by, ..tone }.cost(self.gap.value());
+        (Tone { mask: self.mask(random, kind, cost, most), ..tone }, high)
     }
 
     /// A rest that a tone can have: at an end, with the line's first step, or any.
@@ -272,6 +314,16 @@ impl Plan {
         };
         rest.min(most) as u32
     }
+}
+
+/// A high noise that a tone can have: its noise, one near it, some times as much, the largest,
+/// or any.
+fn some_high_noise(random: &mut Random, noise: u16) -> u16 {
+    let any = random.between(noise.into(), 65_535) as u16;
+    let near = noise.saturating_add(random.between(1, 12) as u16);
+    let [one_more, twice, four_times] =
+        [noise.saturating_add(1), noise.saturating_mul(2), noise.saturating_mul(4)];
+    random.pick(&[noise, one_more, near, near, twice, four_times, u16::MAX, any])
 }
 
 /// The largest rest that a tone can have at a gap.
@@ -338,6 +390,12 @@ pub fn rest(name: impl Into<Name>, rest: u32) -> Vec<u8> {
     bytes
 }
 
+pub fn high_noise(name: impl Into<Name>, high: u16) -> Vec<u8> {
+    let mut bytes = name.into().begin(12);
+    bytes.extend(high.to_be_bytes());
+    bytes
+}
+
 pub fn silence(word: u8, map: u32) -> Vec<u8> {
     let mut bytes = vec![6, word];
     bytes.extend(map.to_be_bytes());
@@ -386,6 +444,22 @@ pub fn with_budget(sheet: &[u8], budget: u64) -> Vec<u8> {
     [&sheet[..place], &budget.to_be_bytes(), &sheet[place + 8..]].concat()
 }
 
+/// A sheet that is accepted, with every high noise in the place of its tone's noise too.
+pub fn at_high_noises(sheet: &[u8]) -> Vec<u8> {
+    let (mut raised, mut places) = (sheet.to_vec(), [0; TONES]);
+    let mut at = 0;
+    while let Some(command) = sheet.get(at).and_then(|byte| Command::of(*byte)) {
+        let end = at + command.length();
+        match (command.short, named(&sheet[at..end])) {
+            (4 | 5, Some(tone)) => places[tone] = at + 1 + command.tone_bytes(),
+            (12, Some(tone)) => raised.copy_within(end - 2..end, places[tone]),
+            _ => {}
+        }
+        at = end;
+    }
+    raised
+}
+
 fn described(random: &mut Random, tones: usize) -> Vec<usize> {
     let mut numbers: Vec<usize> = (0..tones).collect();
     let order = random.below(3);
@@ -424,9 +498,12 @@ fn at_256(random: &mut Random, mut run: Running) -> Option<u64> {
 }
 
 /// A budget: at an end, exactly at what some table needs or next to it, or any; but never
-/// under the rests.
+/// under the rests. The table is of the line at its noises or at the high ones.
 fn budget(random: &mut Random, commands: &Commands) -> u64 {
-    let line = read(&commands.concat()).expect("a valid sheet");
+    let mut line = read(&commands.concat()).expect("a valid sheet");
+    if random.once_in(2) {
+        line = line.at_high_noises();
+    }
     let mut run = Running::nothing(&line);
     if run.tones > 256 && random.once_in(3) {
         if let Some(budget) = at_256(random, Running::nothing(&line)) {
@@ -459,36 +536,43 @@ fn budget(random: &mut Random, commands: &Commands) -> u64 {
     budget.max(rests)
 }
 
-/// Puts in rests, each anywhere after its tone's command, or all straight after it.
-fn put_rests(random: &mut Random, commands: &mut Commands, rests: Commands) {
+/// Puts in rests, or high noises, each anywhere after its tone's command, or all straight
+/// after it.
+fn put_after_tones(random: &mut Random, commands: &mut Commands, new: Commands) {
     let straight = random.once_in(3);
-    for rest in rests {
-        let number = named(&rest).expect("a tone");
+    for new in new {
+        let number = named(&new).expect("a tone");
         let of_tone = |command: &Vec<u8>| describes(command, number);
         let next = 1 + commands.iter().position(of_tone).expect("its tone is described");
         let any = random.between(next as u64, commands.len() as u64 - 1) as usize;
-        commands.insert(if straight { next } else { any }, rest);
+        commands.insert(if straight { next } else { any }, new);
     }
 }
 
-/// A sheet has room for a full line by the longest twins, with a rest on each tone and some
-/// silences.
+/// A sheet has room for a full line by the longest twins, with a rest and a high noise on each
+/// tone and some silences.
 fn commands_of(random: &mut Random, tones: usize) -> Commands {
     let plan = Plan::new(random, tones);
     let mut commands = bare(tones, plan.gap, LARGEST_POWER);
     let end = commands.pop();
-    let mut rests = Vec::new();
+    let (mut rests, mut highs) = (Vec::new(), Vec::new());
     for number in described(random, tones) {
-        let tone = plan.tone(random, number);
+        let (tone, high) = plan.tone(random, number);
         if random.below(4) < plan.rests {
             let name = Name::new(random, number, plan.twins);
             rests.push(rest(name, plan.rest(random, &tone)));
+        }
+        if let Some(high) = high {
+            let name = Name::new(random, number, plan.twins);
+            highs.push(high_noise(name, high));
         }
         let name = Name::new(random, number, plan.twins);
         commands.push(description(name, tone));
     }
     commands.extend(end);
-    put_rests(random, &mut commands, rests);
+    let mut later = [rests, highs];
+    random.shuffle(&mut later);
+    later.into_iter().for_each(|new| put_after_tones(random, &mut commands, new));
     for _ in 0..random.pick(&[0, 0, 1, 2, 12]) {
         let place = 3 + random.below(commands.len() - 3);
         commands.insert(place, some_silence(random, tones));
@@ -647,6 +731,108 @@ mod tests {
         }
         let all = counts.len() == 15 && counts.values().all(|&count| count > 5);
         assert!(all, "rests: {counts:#?}");
+    }
+
+    /// Where a command of a tone first stands, by its short byte.
+    fn place(commands: &Commands, short: u8, number: usize) -> Option<usize> {
+        commands.iter().position(|command| {
+            [short, short + TWIN].contains(&command[0]) && named(command) == Some(number)
+        })
+    }
+
+    /// What is to be seen of a tone with a high noise.
+    fn sorts_of_high_noise(
+        line: &Line,
+        commands: &Commands,
+        number: usize,
+    ) -> [(&'static str, bool); 13] {
+        let tone = line.described[number].expect("a described tone");
+        let Given::Whole { noise, .. } = tone.given else { unreachable!("no reading has one") };
+        let at = |short| place(commands, short, number);
+        let (own, given) =
+            (at(tone.short()).expect("it is described"), at(12).expect("it has one"));
+        let (raised, high) = (line.at_high_noises(), line.high_noises[number]);
+        let cost = |line: &Line| line.described[number].map(|tone| tone.cost(line.gap.value()));
+        let limits = (line.limit(number).0, raised.limit(number).0);
+        [
+            ("of a pair tone", tone.kind == Kind::Pair),
+            ("of a single tone", tone.kind == Kind::Single),
+            ("of the noise", high.is_none()),
+            ("one above the noise", high.is_some_and(|high| high == noise + 1)),
+            ("of 65,535", high == Some(u16::MAX)),
+            ("before the rest", at(11).is_some_and(|rest| given < rest)),
+            ("after the rest", at(11).is_some_and(|rest| rest < given)),
+            ("straight after the tone", given == own + 1),
+            ("after other commands", given > own + 2),
+            ("at one cost", high.is_some() && cost(line) == cost(&raised)),
+            ("at a lower limit", limits.1 > 0 && limits.1 < limits.0),
+            ("of a silenced tone", line.is_silenced(number)),
+            ("1C below 256", number < 256 && commands[given][0] == 0x1c),
+        ]
+    }
+
+    /// What is to be seen of a line's guarded loading.
+    fn sorts_of_guarded(line: &Line, commands: &Commands) -> [(&'static str, bool); 6] {
+        let [plain, guarded] = [line, &line.at_high_noises()].map(|line| {
+            let mut run = Running::nothing(line);
+            run.add_all();
+            run
+        });
+        let count = (0..TONES).filter(|number| place(commands, 12, *number).is_some()).count();
+        let rested = |number: usize| place(commands, 11, number).is_some();
+        [
+            ("on 1,024 tones", count == TONES),
+            ("on 1,024 tones with rests", count == TONES && (0..TONES).all(rested)),
+            ("another table", plain.bits != guarded.bits),
+            ("fewer bits", plain.total_bits > guarded.total_bits),
+            (
+                "as many bits, elsewhere",
+                plain.total_bits == guarded.total_bits && plain.bits != guarded.bits,
+            ),
+            (
+                "its budget used up",
+                guarded.total_bits > 0
+                    && plain.total_bits > guarded.total_bits
+                    && guarded.total_power == line.budget,
+            ),
+        ]
+    }
+
+    /// High noises at both ends and between, of tones by each command that can have one, in
+    /// every order with rests; and lines whose guarded loading is another.
+    #[test]
+    fn high_noises_of_every_sort() {
+        let mut counts = BTreeMap::new();
+        let mut count = |sorts: &[(&'static str, bool)]| {
+            for &(sort, is) in sorts {
+                *counts.entry(sort).or_insert(0) += u32::from(is);
+            }
+        };
+        for index in 0..12_000 {
+            let commands = commands(&mut Random::new(1, index));
+            let line = read(&commands.concat()).expect("a valid sheet");
+            let has = |number: &usize| place(&commands, 12, *number).is_some();
+            let few = line.tones <= 16;
+            if few || line.tones == TONES {
+                count(&sorts_of_guarded(&line, &commands));
+            }
+            for number in (0..line.tones).filter(|number| few && has(number)) {
+                count(&sorts_of_high_noise(&line, &commands, number));
+            }
+        }
+        let all = counts.len() == 19 && counts.values().all(|&count| count > 5);
+        assert!(all, "high noises: {counts:#?}");
+    }
+
+    /// A sheet with its high noises in the place of its noises says the line that has them
+    /// there.
+    #[test]
+    fn noises_raised_in_a_sheet() {
+        for index in 0..3_000 {
+            let sheet = commands(&mut Random::new(1, index)).concat();
+            let line = read(&sheet).expect("a valid sheet");
+            assert_eq!(read(&at_high_noises(&sheet)), Ok(line.at_high_noises()));
+        }
     }
 
     /// Rests make first steps equal to each other and to later steps, so that the tone

@@ -1,6 +1,7 @@
 //! Our time and the independent loader's, side by side; what the time of a step, and that
-//! of the limits, goes to; and the time of many budgets beside that of loadings. The lines
-//! are document 01's sample, of three tones, and cables.
+//! of the limits, goes to; the time of many budgets beside that of loadings; and that of the
+//! guarded loading beside the plain one. The lines are document 01's sample, of three tones,
+//! and cables.
 
 use crate::calls::{self, Buffer, Call};
 use crate::inputs::Input;
@@ -9,11 +10,12 @@ use crate::paper::budgets::{
     in_one_pass, one_by_one, BYTES_A_BUDGET, BYTES_OF_TOTALS, MOST_BUDGETS,
 };
 use crate::paper::gap::Gap;
+use crate::paper::guarded::guarded as paper_guarded;
 use crate::paper::line::{cost, read, Line, LARGEST_POWER};
 use crate::paper::reading::Reading;
 use crate::paper::run::Running;
 use crate::paper::{ANSWER_BYTES, BYTES_A_LIMIT, BYTES_A_TONE};
-use crate::sheets::{bare, reading, rest, silence, tone, with_budget, SAMPLE};
+use crate::sheets::{bare, high_noise, reading, rest, silence, tone, with_budget, SAMPLE};
 use crate::stack;
 use crate::totals::number;
 use std::hint::black_box;
@@ -25,7 +27,8 @@ const ROUNDS: usize = 41;
 const ROUND: Duration = Duration::from_millis(1);
 /// How many tones the lines have.
 const TONES: [usize; 4] = [16, 64, 256, 1024];
-/// In the place of 256, so many tones by 09 and so many with a rest each.
+/// In the place of 256, so many tones by 09 and, without high noises, so many with a rest
+/// each.
 const SHORT_OF_09: usize = 214;
 const SHORT_WITH_RESTS: usize = 194;
 
@@ -51,6 +54,8 @@ struct Shape {
     by: By,
     /// Whether each tone has a rest.
     rests: bool,
+    /// Whether each tone has a high noise, of twice its noise.
+    ranges: bool,
 }
 
 /// 12 dB.
@@ -58,8 +63,15 @@ const CABLE_GAP: Gap = Gap::Whole(4057);
 const NO_GAP: Gap = Gap::Whole(256);
 
 /// The first: the others are like it, but for what they name.
-const BOUND: Shape =
-    Shape { name: "bound", bound: true, ties: false, gap: CABLE_GAP, by: By::Whole, rests: false };
+const BOUND: Shape = Shape {
+    name: "bound",
+    bound: true,
+    ties: false,
+    gap: CABLE_GAP,
+    by: By::Whole,
+    rests: false,
+    ranges: false,
+};
 
 const UNBOUND: Shape = Shape { name: "unbound", bound: false, ..BOUND };
 const RESTED: Shape = Shape { name: "bound, rests", rests: true, ..BOUND };
@@ -79,6 +91,14 @@ const SHAPES: [Shape; 9] = [
 /// The lines on which many budgets are timed.
 const WITH_BUDGETS: [Shape; 3] = [BOUND, UNBOUND, RESTED];
 
+/// The lines on which the guarded loading is timed. On the last, each tone has all that it may
+/// have.
+const WITH_RANGES: [Shape; 3] = [
+    Shape { name: "bound, high noises", ranges: true, ..BOUND },
+    Shape { name: "unbound, high noises", ranges: true, ..UNBOUND },
+    Shape { name: "bound, rests, high noises", ranges: true, ..RESTED },
+];
+
 /// Each line of each number of tones, or of those in its place.
 fn lines<const N: usize>(shapes: [Shape; N]) -> impl Iterator<Item = (usize, Shape)> {
     TONES.into_iter().flat_map(move |tones| shapes.map(|shape| (shape.tones(tones), shape)))
@@ -88,7 +108,7 @@ impl Shape {
     fn tones(self, tones: usize) -> usize {
         match self.by {
             By::Floats if tones == 256 => SHORT_OF_09,
-            _ if self.rests && tones == 256 => SHORT_WITH_RESTS,
+            _ if self.rests && !self.ranges && tones == 256 => SHORT_WITH_RESTS,
             _ => tones,
         }
     }
@@ -108,6 +128,9 @@ impl Shape {
                 // Half the cost: on the best tones of a cable, which cost 1, it is 0.
                 let cost = cost(self.gap.value(), noise as u16, gain as u16);
                 commands.insert(commands.len() - 1, rest(number, cost as u32 / 2));
+            }
+            if self.ranges {
+                commands.insert(commands.len() - 1, high_noise(number, 2 * noise as u16));
             }
         }
         commands.insert(commands.len() - 1, silence(0, 1 << 5 | 1 << 9));
@@ -310,10 +333,34 @@ fn row_of_budgets(tones: usize, shape: Shape) -> String {
     format!("{tones:>5} {:<20}{ours:>10.3}{each}{pass}{loading}{stack:>8}\n", shape.name)
 }
 
-/// The rows of a line, one for each call. Many budgets have rows of their own.
+/// Our guarded loading; beside it the paper's, and our loading for most bits on the same
+/// sheet, each with the ratio of our call to it.
+fn row_of_guarded(tones: usize, shape: Shape) -> String {
+    let input = shape.input(tones);
+    assert_same(Call::Guarded, &input);
+    assert_same(Call::LoadMost, &input);
+    let mut lent = [Call::Guarded, Call::LoadMost].map(|call| lent(call, &input));
+    let [guarded, plain] = lent.each_mut().map(buffers);
+    // SAFETY: four vectors for each of the two, each with its own length.
+    let (mut ours, mut loading, stack) = unsafe {
+        let stack = stack::used(Call::Guarded, guarded, 0);
+        (our(Call::Guarded, guarded, 0), our(Call::LoadMost, plain, 0), stack)
+    };
+    let (mut table, mut answer) = (input.table.clone(), input.answer.clone());
+    let mut papers = || paper_guarded(black_box(&input.sheet), &mut table, &mut answer);
+    let times = best_by_turns([&mut ours, &mut papers, &mut loading]);
+    let [papers, loading] =
+        [1, 2].map(|i| format!("{:>12.3}{:>8.2}", times[i], times[0] / times[i]));
+    let ours = times[0];
+    format!("{tones:>5} {:<26}{ours:>10.3}{papers}{loading}{stack:>8}\n", shape.name)
+}
+
+/// The rows of a line, one for each call. Many budgets and the guarded loading have rows of
+/// their own.
 fn rows(name: &str, input: &Input) -> String {
     let tones = input.start.len();
-    let calls = Call::ALL.into_iter().filter(|call| *call != Call::Budgets);
+    let own = [Call::Budgets, Call::Guarded];
+    let calls = Call::ALL.into_iter().filter(|call| !own.contains(call));
     calls.map(|call| format!("{tones:>5} {name:<20}{}\n", row(call, input))).collect()
 }
 
@@ -343,6 +390,19 @@ pub fn table() -> String {
     for (tones, shape) in lines(WITH_BUDGETS) {
         table += &row_of_budgets(tones, shape);
     }
+    table + &table_of_guarded()
+}
+
+fn table_of_guarded() -> String {
+    let mut table =
+        "\nours us of the guarded loading, the paper's, and our loading for most bits; ratios of "
+            .to_string();
+    table += "ours to each\n";
+    table += "tones line                         ours us    paper us   ratio our loading   ratio";
+    table += "   stack\n";
+    for (tones, shape) in lines(WITH_RANGES) {
+        table += &row_of_guarded(tones, shape);
+    }
     table
 }
 
@@ -350,7 +410,7 @@ pub fn table() -> String {
 /// states.
 pub fn stack(most: u64) -> Result<String, String> {
     let mut largest = 0;
-    let cables = lines(SHAPES).map(|(tones, shape)| shape.input(tones));
+    let cables = lines(SHAPES).chain(lines(WITH_RANGES)).map(|(tones, shape)| shape.input(tones));
     for input in std::iter::once(sample()).chain(cables) {
         for call in Call::ALL.into_iter().filter(|call| call.is_of_host()) {
             let mut lent = lent(call, &input);

@@ -13,7 +13,7 @@ pub fn number(bytes: &[u8]) -> u64 {
 }
 
 /// Answer i of a call.
-fn answered(outcome: &Outcome, i: usize) -> u64 {
+pub fn answered(outcome: &Outcome, i: usize) -> u64 {
     number(&outcome.answer[8 * i..8 * i + 8])
 }
 

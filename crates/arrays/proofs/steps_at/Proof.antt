@@ -11,18 +11,17 @@ returns c = simp (c .if1 .taken)
 returns-2 : tie.Need-returns-2
 returns-2 c =
     let a = c .before .before .before .args in
-    simp (c .before .if1 .left, no-entry (a .s .now) (a .rested) (a .place) (omega arith))
+    simp (c .before .if1 .left, no-entry (a .s .now) (a .rested) 0 (a .place) (omega arith))
 
 steps-of-requires : tie.Need-steps-of-requires
 steps-of-requires c κs =
     let a = c .before .before .before .before .before in
-    let there = rw (entry-there (a .args .s .now) (a .args .rested) (a .args .place) (c .before .before .if2 .left)) at (a .pre) in
-    rw (c .before .tone-at .ensures) (there .0)
+    rw (c .before .tone-at .ensures) (a .pre (c .before .before .if2 .left))
 
 returns-3 : tie.Need-returns-3
 returns-3 c =
     let a = c .before .before .before .before .before .before .args in
-    simp (c .before .before .before .before .if1 .left, entry-there (a .s .now) (a .rested) (a .place) (c .before .before .before .if2 .left), c .steps-of .ensures, c .before .before .tone-at .ensures, c .before .rest-at .ensures)
+    simp (c .before .before .before .before .if1 .left, entry-there (a .s .now) (a .rested) 0 (a .place) (c .before .before .before .if2 .left), c .steps-of .ensures, c .before .before .tone-at .ensures, c .before .rest-at .ensures)
 
 pub steps-at-spec : {M : Type 1} → statement M
 steps-at-spec =

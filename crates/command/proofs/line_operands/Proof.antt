@@ -8,10 +8,10 @@ use Rattle.command.proofs.line_operands.Statement.{statement}
 use Rattle.command.proofs.line_operands.Tie as tie
 
 silence-command-requires : tie.Need-silence-command-requires
-silence-command-requires c κs = (omega (arith, rw (c .match .keys1) at (c .before .before .pre .1 .1 .0)), omega arith)
+silence-command-requires c κs = (omega (arith, rw (c .match .keys1) at (c .before .before .pre .1 .1 .1 .0)), omega arith)
 
 tenths-command-requires : tie.Need-tenths-command-requires
-tenths-command-requires c κs = (omega (arith, rw (c .match .keys2) at (c .before .before .pre .1 .1 .0)), omega arith)
+tenths-command-requires c κs = (omega (arith, rw (c .match .keys2) at (c .before .before .pre .1 .1 .1 .0)), omega arith)
 
 returns : tie.Need-returns
 returns c = λ known. rw (c .before .match .keys1) (c .silence-command .ensures known)
@@ -29,7 +29,7 @@ returns-5 c = λ known.
     let k = c .before .before .before .before in
     let high = c .if2 .left in
     let other = c .before .before .match .rest in
-    rw (end-row (k .args .code) (k .pre .0) (k .pre .1 .0) (λ e. omega (arith, high)) (λ e. omega (arith, high)) (λ e. omega (arith, high)) (other .0 .1) (other .1))
+    rw (end-row (k .args .code) (k .pre .0) (k .pre .1 .0) (k .pre .1 .1 .0) (λ e. omega (arith, high)) (λ e. omega (arith, high)) (λ e. omega (arith, high)) (other .0 .1) (other .1))
 
 pub line-operands-spec : {M : Type 1} → statement M
 line-operands-spec =

@@ -5,9 +5,10 @@ use Prim.Native.Nat.{ℕ, _+_, _≤_, _<_}
 use native.Mathlib.Decide.{ℕ-discrete}
 use native.Mathlib.Omega.{arith}
 use borrow.Author.Needs.{needs}
+use Rattle.places.proofs.Entries.{entry-there}
 use Rattle.rows.specs.Rows.{width, rowAt}
-use Rattle.rows.specs.Codes.{ShortToneCode, ToneCode, RestCode}
-use Rattle.rows.proofs.Judging.{tone-row, rest-row}
+use Rattle.rows.specs.Codes.{ShortToneCode, ToneCode, RestCode, HighCode}
+use Rattle.rows.proofs.Judging.{tone-row, rest-row, high-row}
 use Rattle.command.proofs.operands.Statement.{statement}
 use Rattle.command.proofs.operands.Tie as tie
 
@@ -55,22 +56,32 @@ rest-code c = sym (c .before .short-of .ensures) ∙ c .match .keys1
 
 rest-command-requires : tie.Need-rest-command-requires
 rest-command-requires c κs =
-    (omega (arith, ap (λ r. width (r .operands)) (rest-row (c .before .before .before .args .code) (rest-code c)), c .before .before .before .pre .0), (omega arith, c .before .before .before .pre .1 .1))
+    (omega (arith, ap (λ r. width (r .operands)) (rest-row (c .before .before .before .args .code) (rest-code c)), c .before .before .before .pre .0), (omega arith, λ l. (rw (entry-there (c .before .before .before .args .s .now) (c .before .before .before .args .rested) (c .before .before .before .args .widened) (c .before .before .before .args .place) l) at (c .before .before .before .pre .1 .1)) .0))
+
+high-code : (c : tie.At-match-keys2) → HighCode (c .before .before .before .args .code)
+high-code c = sym (c .before .short-of .ensures) ∙ c .match .keys2
+
+high-command-requires : tie.Need-high-command-requires
+high-command-requires c κs =
+    (omega (arith, ap (λ r. width (r .operands)) (high-row (c .before .before .before .args .code) (high-code c)), c .before .before .before .pre .0), omega arith)
 
 returns : tie.Need-returns
-returns c = c .rest-command .ensures ∙ ap (rowAt _ _ _ _) (rest-row (c .before .before .before .before .args .code) (rest-code (c .before)))
+returns c = c .rest-command .ensures _ ∙ ap (rowAt _ _ _ _) (rest-row (c .before .before .before .before .args .code) (rest-code (c .before)))
+
+returns-2 : tie.Need-returns-2
+returns-2 c = c .high-command .ensures _ ∙ ap (rowAt _ _ _ _) (high-row (c .before .before .before .before .args .code) (high-code (c .before)))
 
 tone-command-requires : tie.Need-tone-command-requires
 tone-command-requires c κs = (omega (arith, ap (λ r. width (r .operands)) (tone-row (c .before .before .before .before .before .args .code) (tone-code c)), c .before .before .before .before .before .pre .0), omega arith)
 
-returns-2 : tie.Need-returns-2
-returns-2 c = c .tone-command .ensures _ ∙ ap (rowAt _ _ _ _) (tone-row (c .before .before .before .before .before .before .args .code) (tone-code (c .before)))
+returns-3 : tie.Need-returns-3
+returns-3 c = c .tone-command .ensures _ _ ∙ ap (rowAt _ _ _ _) (tone-row (c .before .before .before .before .before .before .args .code) (tone-code (c .before)))
 
 line-operands-requires : tie.Need-line-operands-requires
-line-operands-requires c κs = (no-tone c, (λ e. c .before .match .rest .1 (c .before .before .short-of .ensures ∙ e), (omega (arith, c .before .before .before .before .pre .0), omega arith)))
+line-operands-requires c κs = (no-tone c, (λ e. c .before .match .rest .0 .1 (c .before .before .short-of .ensures ∙ e), (λ e. c .before .match .rest .1 (c .before .before .short-of .ensures ∙ e), (omega (arith, c .before .before .before .before .pre .0), omega arith))))
 
-returns-3 : tie.Need-returns-3
-returns-3 c = c .line-operands .ensures _
+returns-4 : tie.Need-returns-4
+returns-4 c = c .line-operands .ensures _
 
 pub operands-spec : {M : Type 1} → statement M
-operands-spec = tie.close (tie.spec (λ c κs. search needs) rest-command-requires tone-command-requires line-operands-requires returns returns-2 returns-3)
+operands-spec = tie.close (tie.spec (λ c κs. search needs) rest-command-requires high-command-requires tone-command-requires line-operands-requires returns returns-2 returns-3 returns-4)

@@ -1,7 +1,7 @@
 -- `limits::limits` meets its contract. Assumes nothing.
 use mathlib.Core.Path.{refl, _∙_}
 use native.Mathlib.Omega.{arith}
-use Rattle.sheet.proofs.Uses.{ReadLine, read-line, refused-is, size-is}
+use Rattle.sheet.proofs.Uses.{ReadLine, read-line, refused-is, size-is, at-low}
 use Rattle.sheet.proofs.Writes.{refused-ends, short-ends, written-ends}
 use Rattle.limits.proofs.Bytes.{length-limits}
 use Rattle.limits.proofs.Outcomes.{limits-write}
@@ -10,10 +10,10 @@ use Rattle.limits.proofs.limits.Statement.{statement}
 use Rattle.limits.proofs.limits.Tie as tie
 
 abbrev start : tie.After-read2 → tie.Start
-start c = c .before .before .before .before .before .before .before .before
+start c = c .before .before .before .before .before .before .before .before .before
 
 -- the arrays index the line that the sheet means
-index : (c : tie.After-read2) → (let r = c .before .before .read-sheet in ReadLine (start c .args .s .now) (c .read2 .given .0 .0) (r .last .1 .0) (r .last .1 .1 .0) (r .last .1 .1 .1 .0))
+index : (c : tie.After-read2) → (let r = c .before .before .read-sheet in ReadLine (start c .args .s .now) (c .read2 .given .0 .0) (r .last .1 .0) (r .last .1 .1 .0) (r .last .1 .1 .1 .0) (r .last .1 .1 .1 .1 .0))
 index c = read-line (c .before .before .read-sheet .ensures) (c .read2 .given .1)
 
 returns : tie.Need-returns
@@ -23,10 +23,10 @@ returns c =
     short-ends limits-write (x .means) (start k .args .out .now) (omega (arith, length-limits (x .index .line), size-is (x .index), c .if1 .taken)) refl
 
 put-limits-requires : tie.Need-put-limits-requires
-put-limits-requires c κs = (index (c .before .before .before .before .before .before .before) .index, omega (arith, c .before .before .before .before .if1 .left))
+put-limits-requires c κs = (at-low (index (c .before .before .before .before .before .before .before) .index), omega (arith, c .before .before .before .before .if1 .left))
 
 returns-2 : tie.Need-returns-2
-returns-2 c = refused-ends limits-write _ (c .before .before .before .before .before .before .before .before .before .args .out .now) (refused-is (c .before .before .before .read-sheet .ensures) (c .before .read .given .1)) refl
+returns-2 c = refused-ends limits-write _ (c .before .before .before .before .before .before .before .before .before .before .args .out .now) (refused-is (c .before .before .before .read-sheet .ensures) (c .before .read .given .1)) refl
 
 returns-3 : tie.Need-returns-3
 returns-3 c =

@@ -2,7 +2,7 @@
 use mathlib.Core.Logic.{⊎-elim}
 use native.Mathlib.Omega.{arith}
 use borrow.Author.Needs.{needs}
-use Rattle.rows.specs.Codes.{ToneCode, RestCode}
+use Rattle.rows.specs.Codes.{ToneCode, RestCode, HighCode}
 use Rattle.addresses.proofs.Widths.{neither}
 use Rattle.rows.proofs.Judging.{end-row}
 use Rattle.rows.proofs.bytes_of.Statement.{statement}
@@ -53,27 +53,39 @@ returns-14 c = (rw (c .match .keys14), omega arith)
 returns-15 : tie.Need-returns-15
 returns-15 c = (rw (c .match .keys15), omega arith)
 
+returns-16 : tie.Need-returns-16
+returns-16 c = (rw (c .match .keys16), omega arith)
+
+returns-17 : tie.Need-returns-17
+returns-17 c = (rw (c .match .keys17), omega arith)
+
 -- a byte that is none of those addresses no tone
 no-tone : (c : tie.At-match-rest) → ToneCode (c .before .args .code) → ⊥
 no-tone c =
     let code = c .before .args .code in
     let other = c .match .rest in
-    ⊎-elim (⊎-elim (neither code 4 (other .0 .0 .0 .0 .0 .0 .0 .0 .0 .0 .0 .1) (other .0 .0 .0 .0 .1)) (neither code 5 (other .0 .0 .0 .0 .0 .0 .0 .0 .0 .0 .1) (other .0 .0 .0 .1))) (⊎-elim (neither code 9 (other .0 .0 .0 .0 .0 .0 .0 .1) (other .0 .0 .1)) (neither code 10 (other .0 .0 .0 .0 .0 .0 .1) (other .0 .1)))
+    ⊎-elim (⊎-elim (neither code 4 (other .0 .0 .0 .0 .0 .0 .0 .0 .0 .0 .0 .0 .0 .1) (other .0 .0 .0 .0 .0 .1)) (neither code 5 (other .0 .0 .0 .0 .0 .0 .0 .0 .0 .0 .0 .0 .1) (other .0 .0 .0 .0 .1))) (⊎-elim (neither code 9 (other .0 .0 .0 .0 .0 .0 .0 .0 .0 .1) (other .0 .0 .0 .1)) (neither code 10 (other .0 .0 .0 .0 .0 .0 .0 .0 .1) (other .0 .0 .1)))
 
 no-rest : (c : tie.At-match-rest) → RestCode (c .before .args .code) → ⊥
 no-rest c =
     let other = c .match .rest in
-    neither (c .before .args .code) 11 (other .0 .0 .0 .0 .0 .1) (other .1)
+    neither (c .before .args .code) 11 (other .0 .0 .0 .0 .0 .0 .0 .1) (other .0 .1)
 
-returns-16 : tie.Need-returns-16
-returns-16 c =
+no-high : (c : tie.At-match-rest) → HighCode (c .before .args .code) → ⊥
+no-high c =
     let other = c .match .rest in
-    (rw (end-row (c .before .args .code) (no-tone c) (no-rest c) (other .0 .0 .0 .0 .0 .0 .0 .0 .0 .0 .0 .0 .0 .0 .1) (other .0 .0 .0 .0 .0 .0 .0 .0 .0 .0 .0 .0 .0 .1) (other .0 .0 .0 .0 .0 .0 .0 .0 .0 .0 .0 .0 .1) (other .0 .0 .0 .0 .0 .0 .0 .0 .0 .1) (other .0 .0 .0 .0 .0 .0 .0 .0 .1)), omega arith)
+    neither (c .before .args .code) 12 (other .0 .0 .0 .0 .0 .0 .1) (other .1)
+
+returns-18 : tie.Need-returns-18
+returns-18 c =
+    let other = c .match .rest in
+    (rw (end-row (c .before .args .code) (no-tone c) (no-rest c) (no-high c) (other .0 .0 .0 .0 .0 .0 .0 .0 .0 .0 .0 .0 .0 .0 .0 .0 .1) (other .0 .0 .0 .0 .0 .0 .0 .0 .0 .0 .0 .0 .0 .0 .0 .1) (other .0 .0 .0 .0 .0 .0 .0 .0 .0 .0 .0 .0 .0 .0 .1) (other .0 .0 .0 .0 .0 .0 .0 .0 .0 .0 .0 .1) (other .0 .0 .0 .0 .0 .0 .0 .0 .0 .0 .1)), omega arith)
 
 pub bytes-of-spec : {M : Type 1} → statement M
 bytes-of-spec =
     tie.close
     (tie.spec
+    (λ c. search needs)
     (λ c. search needs)
     (λ c. search needs)
     (λ c. search needs)
@@ -94,4 +106,6 @@ bytes-of-spec =
     returns-13
     returns-14
     returns-15
-    returns-16)
+    returns-16
+    returns-17
+    returns-18)

@@ -4,7 +4,7 @@ use Prim.Native.Nat.{_+_, _-_, _≤_}
 use native.Mathlib.Nat.{add-zero}
 use native.Mathlib.Omega.{arith}
 use Rattle.lists.proofs.Joined.{Written, written-none, written-next}
-use Rattle.tidytones.specs.Copies.{byteFrom}
+use Rattle.tidylengths.specs.Copies.{byteFrom}
 use Rattle.tidytones.proofs.copy.Statement.{statement}
 use Rattle.tidytones.proofs.copy.Tie as tie
 

@@ -8,8 +8,9 @@ use Rattle.bigendian.proofs.Numbers.{number-fits}
 use Rattle.addresses.proofs.Widths.{short-low}
 use Rattle.tidyform.specs.Tidy.{tidyWidth}
 use Rattle.tidyform.proofs.Parts.{tidy-low}
-use Rattle.tidytones.specs.Copies.{carriedBytes}
-use Rattle.tidytones.proofs.Writes.{length-command, command-stores}
+use Rattle.tidylengths.specs.Copies.{carriedBytes}
+use Rattle.tidylengths.proofs.Commands.{length-command}
+use Rattle.tidytones.proofs.Writes.{command-stores}
 use Rattle.tidytones.proofs.put_command.Statement.{statement}
 use Rattle.tidytones.proofs.put_command.Tie as tie
 

@@ -2,7 +2,7 @@
 use mathlib.Core.Path.{refl, ap}
 use native.Mathlib.Omega.{arith}
 use lib.ListN.{length}
-use Rattle.tidytones.proofs.Writes.{some-copy, no-copy}
+use Rattle.tidylengths.proofs.Commands.{some-copy, no-copy}
 use Rattle.tidytones.proofs.put_own.Statement.{statement}
 use Rattle.tidytones.proofs.put_own.Tie as tie
 

@@ -4,7 +4,7 @@ use native.Mathlib.Omega.{arith}
 use borrow.Author.Needs.{needs}
 use lib.ListN.{length}
 use Rattle.places.specs.Places.{restFrom}
-use Rattle.tidytones.proofs.Writes.{some-rest, no-rest, rest-placed}
+use Rattle.tidylengths.proofs.Commands.{some-rest, no-rest, rest-placed}
 use Rattle.tidytones.proofs.put_rest.Statement.{statement}
 use Rattle.tidytones.proofs.put_rest.Tie as tie
 

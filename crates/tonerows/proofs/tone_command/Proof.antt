@@ -15,19 +15,19 @@ use Rattle.rows.proofs.Judging.{described-at, tone-operands, number-codes}
 use Rattle.tonerows.proofs.tone_command.Statement.{statement}
 use Rattle.tonerows.proofs.tone_command.Tie as tie
 
--- what is known of the tone so far, wherever its rest stands
-abbrev known : tie.Start → (rest : ℕ) → Known
-known c rest = knownAt (c .args .s .now) (c .args .place) rest
+-- what is known of the tone so far, wherever its rest and its high noise stand
+abbrev known : tie.Start → (rest high : ℕ) → Known
+known c rest high = knownAt (c .args .s .now) (c .args .place) rest high
 
 -- the tone's number
 abbrev tone : tie.Start → ℕ
 tone c = number (c .args .s .now) (c .args .at + 1) (numberWidth (c .args .code))
 
 -- a tone of the line that is not described leaves it to the operands after its number
-abbrev FromTone : tie.Start → (rest : ℕ) → List Operand → Type 0
-FromTone c rest os =
-    rowAt (c .args .header) (known c rest) (c .args .s .now) (c .args .at) (toneRow (c .args .code))
-    ≡ describesFrom (c .args .header) (known c rest) (tone c ∷ []) (c .args .s .now) (c .args .at + 1 + numberWidth (c .args .code)) os
+abbrev FromTone : tie.Start → (rest high : ℕ) → List Operand → Type 0
+FromTone c rest high os =
+    rowAt (c .args .header) (known c rest high) (c .args .s .now) (c .args .at) (toneRow (c .args .code))
+    ≡ describesFrom (c .args .header) (known c rest high) (tone c ∷ []) (c .args .s .now) (c .args .at + 1 + numberWidth (c .args .code)) os
 
 -- the tests of the tone's number, as the code has it
 beyond : (c : tie.Then1) → c .before .before .before .before .args .header .size ≤ tone (c .before .before .before .before)
@@ -36,12 +36,12 @@ beyond c = rw (c .before .before .tone-number .ensures) at (c .if1 .taken)
 of-line : (c : tie.Else1) → tone (c .before .before .before .before) < c .before .before .before .before .args .header .size
 of-line c = rw (c .before .before .tone-number .ensures) at (c .if1 .left)
 
-from-tone : (c : tie.Else2) (rest : ℕ) (os : List Operand) → toneOperands (shortOf (c .before .before .before .before .before .args .code)) ≡ os → FromTone (c .before .before .before .before .before) rest os
-from-tone c rest os e =
+from-tone : (c : tie.Else2) (rest high : ℕ) (os : List Operand) → toneOperands (shortOf (c .before .before .before .before .before .args .code)) ≡ os → FromTone (c .before .before .before .before .before) rest high os
+from-tone c rest high os e =
     let a = c .before .before .before .before .before .args in
     tone-operands _ _ _ _ (numberWidth (a .code)) (shortOf (a .code)) (toneOperands (shortOf (a .code)))
-    ∙ rw (lt-leb _ _ (of-line (c .before)), described-at (a .s .now) rest (a .place), le-ltb 0 (a .place) (omega arith))
-    (ap (describesFrom (a .header) (known (c .before .before .before .before .before) rest) (tone (c .before .before .before .before .before) ∷ []) (a .s .now) (a .at + 1 + numberWidth (a .code))) e)
+    ∙ rw (lt-leb _ _ (of-line (c .before)), described-at (a .s .now) rest high (a .place), le-ltb 0 (a .place) (omega arith))
+    (ap (describesFrom (a .header) (known (c .before .before .before .before .before) rest high) (tone (c .before .before .before .before .before) ∷ []) (a .s .now) (a .at + 1 + numberWidth (a .code))) e)
 
 -- the operands after the number, in each arm
 levels-are : (c : tie.At-match-keys1) → toneOperands (shortOf (c .before .before .before .before .before .before .before .before .args .code)) ≡ levelOperands
@@ -59,14 +59,14 @@ room : (c : tie.After-number-width) (os : List Operand) → toneOperands (shortO
 room c os e = omega (arith, c .number-width .ensures .0, ap width e, c .before .before .before .before .before .before .pre .0)
 
 returns : tie.Need-returns
-returns c = λ rest. sym (tone-operands _ _ _ _ (numberWidth (c .before .before .before .before .args .code)) _ _ ∙ rw (le-leb _ _ (beyond c)))
+returns c = λ rest high. sym (tone-operands _ _ _ _ (numberWidth (c .before .before .before .before .args .code)) _ _ ∙ rw (le-leb _ _ (beyond c)))
 
 returns-2 : tie.Need-returns-2
-returns-2 c = λ rest.
+returns-2 c = λ rest high.
     let a = c .before .before .before .before .before .args in
     sym
     (tone-operands _ _ _ _ (numberWidth (a .code)) _ _
-    ∙ rw (lt-leb _ _ (of-line (c .before)), described-at (a .s .now) rest (a .place), lt-ltb 0 (a .place) (omega arith)))
+    ∙ rw (lt-leb _ _ (of-line (c .before)), described-at (a .s .now) rest high (a .place), lt-ltb 0 (a .place) (omega arith)))
 
 from-levels-requires : tie.Need-from-levels-requires
 from-levels-requires c κs = (room (c .before .before) levelOperands (levels-are c), omega arith)
@@ -78,19 +78,19 @@ from-numbers-requires : tie.Need-from-numbers-requires
 from-numbers-requires c κs = (room (c .before .before) (numbers (eqb (c .before .short-of .result) 5)) (whole-numbers c), omega arith)
 
 returns-3 : tie.Need-returns-3
-returns-3 c = λ rest.
-    rw (c .before .before .before .before .before .before .before .tone-number .ensures, c .before .before .before .number-width .ensures .0) at (c .from-levels .ensures (known (c .before .before .before .before .before .before .before .before .before) rest))
-    ∙ sym (from-tone (c .before .before .before .before) rest levelOperands (levels-are (c .before)))
+returns-3 c = λ rest high.
+    rw (c .before .before .before .before .before .before .before .tone-number .ensures, c .before .before .before .number-width .ensures .0) at (c .from-levels .ensures (known (c .before .before .before .before .before .before .before .before .before) rest high))
+    ∙ sym (from-tone (c .before .before .before .before) rest high levelOperands (levels-are (c .before)))
 
 returns-4 : tie.Need-returns-4
-returns-4 c = λ rest.
-    rw (c .before .before .before .before .before .before .before .tone-number .ensures, c .before .before .before .number-width .ensures .0) at (c .from-ratio .ensures (known (c .before .before .before .before .before .before .before .before .before) rest))
-    ∙ sym (from-tone (c .before .before .before .before) rest ratioOperands (ratio-are (c .before)))
+returns-4 c = λ rest high.
+    rw (c .before .before .before .before .before .before .before .tone-number .ensures, c .before .before .before .number-width .ensures .0) at (c .from-ratio .ensures (known (c .before .before .before .before .before .before .before .before .before) rest high))
+    ∙ sym (from-tone (c .before .before .before .before) rest high ratioOperands (ratio-are (c .before)))
 
 returns-5 : tie.Need-returns-5
-returns-5 c = λ rest.
-    rw (c .before .before .before .before .before .before .before .tone-number .ensures, c .before .before .before .number-width .ensures .0) at (c .from-numbers .ensures (c .before .before .before .before .before .before .before .before .before .args .header) (known (c .before .before .before .before .before .before .before .before .before) rest))
-    ∙ sym (from-tone (c .before .before .before .before) rest (numbers (eqb (c .before .before .short-of .result) 5)) (whole-numbers (c .before)))
+returns-5 c = λ rest high.
+    rw (c .before .before .before .before .before .before .before .tone-number .ensures, c .before .before .before .number-width .ensures .0) at (c .from-numbers .ensures (c .before .before .before .before .before .before .before .before .before .args .header) (known (c .before .before .before .before .before .before .before .before .before) rest high))
+    ∙ sym (from-tone (c .before .before .before .before) rest high (numbers (eqb (c .before .before .short-of .result) 5)) (whole-numbers (c .before)))
 
 pub tone-command-spec : {M : Type 1} → statement M
 tone-command-spec =

@@ -23,7 +23,7 @@ pub struct Command {
 
 impl Command {
     /// The bytes of each command that is no twin, by its byte.
-    const WIDTHS: [usize; 12] = [0, 3, 3, 9, 15, 15, 6, 1, 2, 19, 15, 6];
+    const WIDTHS: [usize; 13] = [0, 3, 3, 9, 15, 15, 6, 1, 2, 19, 15, 6, 4];
 
     /// What a byte stands for: "Each command with a tone byte gets a twin".
     pub fn of(byte: u8) -> Option<Command> {
@@ -31,7 +31,7 @@ impl Command {
         let command = Command { short: byte % TWIN, is_twin };
         let is_known = match is_twin {
             true => byte < 2 * TWIN && command.has_tone(),
-            false => (1..12).contains(&byte),
+            false => (1..13).contains(&byte),
         };
         is_known.then_some(command)
     }
@@ -51,7 +51,7 @@ impl Command {
 
     /// Whether its first operand is a tone.
     pub fn has_tone(self) -> bool {
-        self.describes_a_tone() || self.short == 11
+        self.describes_a_tone() || matches!(self.short, 11 | 12)
     }
 
     /// The bytes of its tone.
@@ -100,6 +100,9 @@ pub struct Line {
     pub described: Vec<Option<Tone>>,
     /// Of each tone, by 0B, and 0 where none was given: both are the same line.
     pub rests: Vec<u32>,
+    /// Of each tone, by 0C, where it is above the noise: one as large and none are the same
+    /// line.
+    pub high_noises: Vec<Option<u16>>,
     pub silenced: [u32; WORDS],
 }
 
@@ -291,10 +294,17 @@ fn read_silence(line: &mut Line, sheet: &[u8], at: usize) -> Result<(), Refusal>
     Ok(())
 }
 
-/// Command 0B or its twin. Which tones have had one, even of rest 0, is no part of the line.
+/// Which tones have had a 0B, even of rest 0, and which a 0C, even of their own noise: that
+/// is no part of the line.
+struct Had {
+    rest: Vec<bool>,
+    high_noise: Vec<bool>,
+}
+
+/// Command 0B or its twin.
 fn read_rest(
     line: &mut Line,
-    rested: &mut [bool],
+    had: &mut Had,
     sheet: &[u8],
     at: usize,
     command: Command,
@@ -302,16 +312,37 @@ fn read_rest(
     let (place, next) = read_number(line, sheet, at, command)?;
     let rest = number(sheet, next, 4) as u32;
     match &line.described[place] {
-        Some(tone) if !rested[place] => {
+        Some(tone) if !had.rest[place] => {
             if !tone.takes_rest(line.gap.value(), rest) {
                 return refuse(15, next);
             }
             line.rests[place] = rest;
-            rested[place] = true;
+            had.rest[place] = true;
             Ok(())
         }
         _ => refuse(14, at + 1),
     }
+}
+
+/// Command 0C or its twin. "A tone undescribed or given twice is 14, as in W6; then a tone of
+/// another command is 4 at the tone; then a high noise below the noise is 4 at that operand."
+fn read_high_noise(
+    line: &mut Line,
+    had: &mut Had,
+    sheet: &[u8],
+    at: usize,
+    command: Command,
+) -> Result<(), Refusal> {
+    let (place, next) = read_number(line, sheet, at, command)?;
+    let given = match &line.described[place] {
+        Some(tone) if !had.high_noise[place] => tone.given,
+        _ => return refuse(14, at + 1),
+    };
+    let Given::Whole { noise, .. } = given else { return refuse(4, at + 1) };
+    let high = operand(sheet, next, 2, noise.into(), 65_535)? as u16;
+    line.high_noises[place] = (high > noise).then_some(high);
+    had.high_noise[place] = true;
+    Ok(())
 }
 
 /// What the bytes of a sheet say: refusals 1 to 7 and 12 to 15.
@@ -325,15 +356,15 @@ pub fn read_bytes(sheet: &[u8]) -> Result<Line, Refusal> {
     let mut at = 3 + gap.length();
     command(sheet, at, |byte| byte == 3)?;
     let budget = operand(sheet, at + 1, 8, 0, LARGEST_POWER)?;
-    let (described, rests) = (vec![None; tones], vec![0; tones]);
-    let mut line = Line { tones, gap, budget, described, rests, silenced: [0; WORDS] };
-    let mut rested = vec![false; tones];
+    let mut line = Line::bare(tones, gap, budget);
+    let mut had = Had { rest: vec![false; tones], high_noise: vec![false; tones] };
     at += 9;
     loop {
-        let command = command(sheet, at, |byte| matches!(byte, 4..=7 | 9..=11))?;
+        let command = command(sheet, at, |byte| matches!(byte, 4..=7 | 9..=12))?;
         match command.short {
             6 => read_silence(&mut line, sheet, at)?,
-            11 => read_rest(&mut line, &mut rested, sheet, at, command)?,
+            11 => read_rest(&mut line, &mut had, sheet, at, command)?,
+            12 => read_high_noise(&mut line, &mut had, sheet, at, command)?,
             7 if at + 1 < sheet.len() => return refuse(7, at + 1),
             7 => return Ok(line),
             _ => read_tone(&mut line, sheet, at, command)?,
@@ -352,6 +383,29 @@ pub fn read(sheet: &[u8]) -> Result<Line, Refusal> {
 }
 
 impl Line {
+    /// With nothing described.
+    fn bare(tones: usize, gap: Gap, budget: u64) -> Line {
+        Line {
+            tones,
+            gap,
+            budget,
+            described: vec![None; tones],
+            rests: vec![0; tones],
+            high_noises: vec![None; tones],
+            silenced: [0; WORDS],
+        }
+    }
+
+    /// The line with every high noise in the place of its tone's noise.
+    pub fn at_high_noises(&self) -> Line {
+        let mut line = self.clone();
+        for (tone, high) in line.described.iter_mut().zip(&mut line.high_noises) {
+            let Some(Tone { given: Given::Whole { noise, .. }, .. }) = tone else { continue };
+            *noise = high.take().unwrap_or(*noise);
+        }
+        line
+    }
+
     pub fn is_silenced(&self, tone: usize) -> bool {
         self.silenced[tone / 32] >> (tone % 32) & 1 == 1
     }

@@ -6,17 +6,17 @@ use super::sample::{and, bits, reading, refusal, rest, sample, value};
 use super::*;
 
 /// The twin of a command that names a tone below 256, for a tone.
-fn twin(short: &[u8], tone: u16) -> Vec<u8> {
+pub fn twin(short: &[u8], tone: u16) -> Vec<u8> {
     [&[short[0] + 0x10][..], &tone.to_be_bytes(), &short[2..]].concat()
 }
 
 /// The twin that says the same.
-fn same(short: &[u8]) -> Vec<u8> {
+pub fn same(short: &[u8]) -> Vec<u8> {
     twin(short, short[1].into())
 }
 
 /// Command 04 with a mask of 100, for a tone below 256.
-fn pair(tone: u8, noise: u8, cap: u8) -> Vec<u8> {
+pub fn pair(tone: u8, noise: u8, cap: u8) -> Vec<u8> {
     vec![4, tone, 0, noise, 0, 1, cap, 0, 0, 0, 0, 0, 0, 0, 100]
 }
 
@@ -29,13 +29,13 @@ fn any_pair(tone: u16, noise: u8, cap: u8) -> Vec<u8> {
 }
 
 /// A sheet of gap 256.
-fn sheet(tones: u16, budget: u64, commands: &[Vec<u8>]) -> Vec<u8> {
+pub fn sheet(tones: u16, budget: u64, commands: &[Vec<u8>]) -> Vec<u8> {
     let [high, low] = tones.to_be_bytes();
     let first = [&[1, high, low, 2, 1, 0, 3][..], &budget.to_be_bytes()].concat();
     [&first[..], &commands.concat(), &[7]].concat()
 }
 
-fn tidied(sheet: &[u8]) -> Vec<u8> {
+pub fn tidied(sheet: &[u8]) -> Vec<u8> {
     let (mut written, mut answer) = (vec![238; sheet.len() + 3], [0; 24]);
     assert_eq!(tidy(sheet, &mut written, &mut answer), 0);
     let length = value(&answer) as usize;
@@ -51,20 +51,21 @@ fn tidied(sheet: &[u8]) -> Vec<u8> {
 fn commands_and_twins() {
     for byte in 0..=255 {
         let due = match byte {
-            1..=11 => Some((byte, false)),
+            1..=12 => Some((byte, false)),
             0x14 => Some((4, true)),
             0x15 => Some((5, true)),
             0x19 => Some((9, true)),
             0x1a => Some((10, true)),
             0x1b => Some((11, true)),
+            0x1c => Some((12, true)),
             _ => None,
         };
         let command = Command::of(byte);
         assert_eq!(command.map(|command| (command.short, command.is_twin)), due, "{byte:02x}");
         assert!(command.is_none_or(|command| command.byte() == byte));
     }
-    let lengths = [0x14, 0x15, 0x19, 0x1a, 0x1b].map(|byte| Command::of(byte).unwrap().length());
-    assert_eq!(lengths, [16, 16, 20, 16, 7]);
+    let length = |byte| Command::of(byte).unwrap().length();
+    assert_eq!([0x14, 0x15, 0x19, 0x1a, 0x1b, 0x1c].map(length), [16, 16, 20, 16, 7, 5]);
 }
 
 /// The sample with any of its tones by twins, and rests by either command, is one line with
@@ -176,7 +177,7 @@ fn places_of_twins() {
         assert_eq!(refusal(&[&sample[..60], &twin, &[7]].concat()), (5, 61));
         assert_eq!(refusal(&[&sample[..], &twin].concat()), (7, 61));
     }
-    for byte in [0x0c, 0x10, 0x11, 0x12, 0x13, 0x16, 0x17, 0x18, 0x1c, 0x24, 0x2b] {
+    for byte in [0x0d, 0x10, 0x11, 0x12, 0x13, 0x16, 0x17, 0x18, 0x1d, 0x24, 0x2c] {
         assert_eq!(refusal(&[&sample[..15], &[byte], &sample[16..]].concat()), (3, 15));
     }
 }

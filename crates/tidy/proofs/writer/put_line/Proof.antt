@@ -7,8 +7,8 @@ use Rattle.sizes.specs.Sizes.{mostWords, endCommand}
 use Rattle.sheet.proofs.Sound.{Bytes}
 use Rattle.sheet.proofs.Uses.{size-high}
 use Rattle.tidyform.specs.Tidy.{headBytes, mapBytes}
-use Rattle.tidytones.specs.Copies.{copies}
-use Rattle.tidy.proofs.Index.{tones-inside, rests-inside, tidy-bytes, tidy-stores}
+use Rattle.tidylengths.specs.Copies.{copies}
+use Rattle.tidy.proofs.Index.{tones-inside, rests-inside, highs-inside, tidy-bytes, tidy-stores}
 use Rattle.tidy.proofs.writer.put_line.Statement.{statement}
 use Rattle.tidy.proofs.writer.put_line.Tie as tie
 
@@ -18,7 +18,7 @@ known c i = c .shared-slice-known .given i .fits
 
 -- the tidy form has room
 room : (c : tie.After-shared-slice-known) → (let a = c .before .before .args in
-    length (headBytes (a .header)) + length (copies (a .header .size) (a .s .now) (a .places .now) (a .rests .now))
+    length (headBytes (a .header)) + length (copies (a .header .size) (a .s .now) (a .places .now) (a .rests .now) (a .highs .now))
     + length (mapBytes mostWords (a .maps .now)) + endCommand ≤ length (a .out .now))
 room c =
     let p = c .before .before .pre in
@@ -36,15 +36,15 @@ abbrev begun-words : tie.After-put-words → tie.After-shared-slice-known
 begun-words c = begun-tones (c .before .before .before .before)
 
 -- the buffer keeps its length at each call
-kept-tones : (c : tie.After-put-tones) → length (c .put-tones .last .1 .1 .1 .1 .0) ≡ length (begun-tones c .before .before .args .out .now)
-kept-tones c = c .put-tones .kept .1 .1 .1 .1 .0 ∙ c .before .before .before .before .put-header .kept .0
+kept-tones : (c : tie.After-put-tones) → length (c .put-tones .last .1 .1 .1 .1 .1 .0) ≡ length (begun-tones c .before .before .args .out .now)
+kept-tones c = c .put-tones .kept .1 .1 .1 .1 .1 .0 ∙ c .before .before .before .before .put-header .kept .0
 
 kept-words : (c : tie.After-put-words) → length (c .put-words .last .0) ≡ length (begun-words c .before .before .args .out .now)
 kept-words c = c .put-words .kept .0 ∙ kept-tones (c .before .before .before .before)
 
 -- the places after the first three commands, after the tones and after the words
 tones-at : (c : tie.After-put-tones) → (let a = begun-tones c .before .before .args in
-    c .put-tones .result ≡ length (headBytes (a .header)) + length (copies (a .header .size) (a .s .now) (a .places .now) (a .rests .now)))
+    c .put-tones .result ≡ length (headBytes (a .header)) + length (copies (a .header .size) (a .s .now) (a .places .now) (a .rests .now) (a .highs .now)))
 tones-at c = omega (arith, c .put-tones .ensures .0, c .before .before .before .before .put-header .ensures .0)
 
 put-header-requires : tie.Need-put-header-requires
@@ -55,7 +55,7 @@ put-tones-requires c κs =
     let h = c .before .before .before in
     let k = begun h in
     let x = k .before .before .pre .0 in
-    (size-high x (known k), (tones-inside x, (rests-inside x, rw (h .put-header .kept .0) (omega (arith, h .put-header .ensures .0, room k)))))
+    (size-high x (known k), (tones-inside x, (rests-inside x, (highs-inside x, rw (h .put-header .kept .0) (omega (arith, h .put-header .ensures .0, room k))))))
 
 put-words-requires : tie.Need-put-words-requires
 put-words-requires c κs =

@@ -1,0 +1,3 @@
+pub mod High
+pub mod Raising
+pub mod Lines

@@ -1,0 +1,4 @@
+pub mod Places
+pub mod Chosen
+pub mod Dearer
+pub mod Guarded
