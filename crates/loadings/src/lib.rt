@@ -77,10 +77,11 @@ pub fn most_bits(
 {
     let count = size as usize;
     let start = starts::no_bits(count, rests);
+    let most = MOST_BITS;
     let ended = wholeruns::run(
         start,
         Rule::Add,
-        MOST_BITS,
+        most,
         budget,
         count,
         limits,
