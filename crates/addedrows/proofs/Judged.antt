@@ -14,9 +14,9 @@ use Rattle.noises.specs.Noises.{entryHasNoise, entryLow}
 use Rattle.rows.specs.declared.Header.{Header}
 use Rattle.rows.specs.declared.Command.{Command}
 use Rattle.rows.specs.declared.Command.the-variants as command
-use Rattle.rows.specs.Rows.{takes, isRestOf, rest, high, rowAt}
+use Rattle.rows.specs.Rows.{isRestOf, rest, high, rowAt}
 use Rattle.rows.specs.Codes.{knownAt}
-use Rattle.rows.proofs.Judging.{outOfRange, rest-operands, high-operands, described-at}
+use Rattle.rows.proofs.Judging.{outOfRange, rest-operands, high-operands, rest-taken-at, high-taken-at}
 use Rattle.addedrows.specs.declared.Adding.{Adding}
 use Rattle.addedrows.specs.declared.Adding.the-variants.{To, Refused}
 use Rattle.addedrows.specs.Adding.{takesAt, addingTo}
@@ -64,10 +64,6 @@ module _ (size tone place : ℕ) where
       by false true h = refl
       by false false h = absurd (true≢false (sym h))
 
--- the code's account of whether a tone takes it is that of its entry
-pub takes-at : (s : List ℕ) (place rest high had : ℕ) → takes (entryAt s place rest high) (ltb 0 had) ≡ takesAt place had
-takes-at s place rest high had = rw (described-at s rest high place)
-
 -- one that takes it is described
 pub taken-there : (place had : ℕ) → takesAt place had ≡ true → 0 < place
 taken-there zero had h = absurd (true≢false (sym h))
@@ -83,7 +79,7 @@ module _ (h : Header) (s : List ℕ) (at w place rested widened : ℕ) where
       (cond (isRestOf (parts (h .gap)) (entryAt s place rested widened) (number s (at + 1 + w) 4)) (command.Rest toneOf) (command.Refused (RestOutOfRange (at + 1 + w))))
   rest-adding =
       rest-operands h (knownAt s place rested widened) s at w
-      ∙ rw (takes-at s place rested widened rested) (adding-judged (h .size) toneOf (at + 1) (takesAt place rested) _)
+      ∙ rw (rest-taken-at s place rested widened) (adding-judged (h .size) toneOf (at + 1) (takesAt place rested) _)
 
   pub high-adding : rowAt h (knownAt s place rested widened) s at (high w)
       ≡ orRefused (addingTo (h .size) toneOf (at + 1) (takesAt place widened))
@@ -92,4 +88,4 @@ module _ (h : Header) (s : List ℕ) (at w place rested widened : ℕ) where
       (outOfRange (at + 1)))
   high-adding =
       high-operands h (knownAt s place rested widened) s at w
-      ∙ rw (takes-at s place rested widened widened) (adding-judged (h .size) toneOf (at + 1) (takesAt place widened) _)
+      ∙ rw (high-taken-at s place rested widened) (adding-judged (h .size) toneOf (at + 1) (takesAt place widened) _)

@@ -1,6 +1,5 @@
 -- Which outcome each test of the code leads to.
 -- Assumes nothing.
-use mathlib.Core.Bool.{cond}
 use mathlib.Core.List.{List}
 use mathlib.Core.Option.{none, some}
 use mathlib.Core.Path.{_≡_, refl, sym, ap, _∙_}
@@ -17,7 +16,7 @@ use Rattle.refusals.specs.declared.Refusal.{Refusal}
 use Rattle.refusals.specs.declared.Refusal.the-variants.{DestinationTooSmall, RestsOverBudget}
 use Rattle.refusals.specs.declared.WriteAnswer.{WriteAnswer}
 use Rattle.refusals.specs.declared.WriteAnswer.the-variants.{Written, Refused}
-use Rattle.refusals.specs.Writing.{Writing, writes, turned-down, ifFits, writeAnswer}
+use Rattle.refusals.specs.Writing.{Writing, writes, turned-down, writeAnswer}
 use Rattle.refusals.proofs.Writing.{too-small, fits}
 use Rattle.rows.specs.declared.Header.{Header}
 use Rattle.budgetlist.specs.Budgets.{budgetOf, budgetCount, listRefusal}

@@ -2,7 +2,7 @@
 -- Assumes nothing.
 use mathlib.Core.Bool.{Bool, true, false}
 use mathlib.Core.List.{List}
-use mathlib.Core.Path.{_≡_, refl, sym, ap, _∙_}
+use mathlib.Core.Path.{_≡_, refl, sym, _∙_}
 use Prim.Native.Nat.{ℕ, _≤_}
 use native.Mathlib.Omega.{arith}
 use lib.ListN.{length}
@@ -12,7 +12,7 @@ use Rattle.steps.specs.Runs.{mostBits}
 use Rattle.line.specs.declared.Kind.{Kind}
 use Rattle.line.specs.declared.Kind.the-variants.{Pair, Single, Read}
 use Rattle.line.specs.Tone.{doublingsOf}
-use Rattle.line.specs.Line.{Entry, undescribed, described, Line, tones, gapOf, entryOf, restTotal, LineInRange, entrySteps, stepsAt}
+use Rattle.line.specs.Line.{Entry, undescribed, described, Line, tones, gapOf, entryOf, restTotal, entrySteps}
 use Rattle.line.specs.Arrays.{Arrays, arrays, ArraysOf}
 use Rattle.noises.specs.Noises.{kindWith, entryWith, highNoise, atHigh}
 use Rattle.noises.proofs.Chosen.{steps-with, chosen-rests, chosen-in-range, high-inside}
@@ -20,7 +20,7 @@ use Rattle.refusals.specs.declared.Refusal.{Refusal}
 use Rattle.rows.specs.declared.Header.{Header}
 use Rattle.loadings.specs.declared.Loaded.{Loaded}
 use Rattle.loadings.specs.declared.Loaded.the-variants as load
-use Rattle.loadings.specs.Loads.{Loading, loaded, turned-down, mostOn, loadAnswer, afterLoading, Loadable, SomeTones, ForTones, LoadsAs}
+use Rattle.loadings.specs.Loads.{Loading, loaded, turned-down, mostOn, loadAnswer, afterLoading, Loadable, LoadsAs}
 use Rattle.loadings.proofs.Runs.{line-loadable}
 use Rattle.sheet.specs.Reading.{accepted, said, reading}
 use Rattle.sheet.specs.Index.{Indexed}

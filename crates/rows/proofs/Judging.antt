@@ -2,11 +2,11 @@
 -- - `below`, `above`, `in-range`: what an operand with a range decides;
 -- - `one-operand`, `silence-operands`, `rest-operands`, `high-operands`: a command as a chain of tests at the places of its operands;
 -- - `tone-operands`, `number-operands`, `level-operands`, `ratio-operands`, `cap-operands`: the same of a tone's, from one operand on;
--- - `described-at`, `rest-judged`, `noise-judged`, `low-judged`: whether a tone is described, and what it takes, from its places;
+-- - `described-at`, `rest-taken-at`, `high-taken-at`, `rest-judged`, `noise-judged`, `low-judged`: whether a tone is described, and what it takes, from its places;
 -- - `header-width`, `number-codes`, `tone-row`, `rest-row`, `high-row`, `end-row`: the rows by their bytes, as the code finds them.
 -- Assumes nothing.
 use mathlib.Core.Path.{_≡_, refl, sym, ap}
-use mathlib.Core.Bool.{Bool, true, false, cond}
+use mathlib.Core.Bool.{Bool, true, false, not, _&&_, cond}
 use mathlib.Core.Logic.{inl, inr, ⊎-elim}
 use mathlib.Core.List.{List, [], _∷_}
 use mathlib.Core.Option.{Option, none, some}
@@ -35,7 +35,7 @@ use Rattle.rows.specs.declared.Header.{Header}
 use Rattle.rows.specs.declared.Command.{Command}
 use Rattle.rows.specs.declared.Command.the-variants.{Describe, Rest, High, Silence, Refused}
 use Rattle.rows.specs.Rows.{Known, Operand, takesRest, takesHigh, isRestOf, within, rest, high, describing, capAndMask, numbers, levelsOf, ratioOf, levelOperands, ratioOperands, end, width, judged, describesFrom, rowAt}
-use Rattle.rows.specs.Codes.{silenceRow, ToneCode, RestCode, HighCode, toneOperands, toneRow, restRow, highRow, orEnd, rowOf}
+use Rattle.rows.specs.Codes.{knownAt, silenceRow, ToneCode, RestCode, HighCode, toneOperands, toneRow, restRow, highRow, orEnd, rowOf}
 
 -- ---- operands
 
@@ -152,8 +152,14 @@ pub described-at : (s : List ℕ) (rest high place : ℕ) → isDescribed (entry
 described-at s rest high zero = refl
 described-at s rest high (suc p) = sym (lt-ltb 0 (suc p) (omega arith))
 
--- a described tone is judged by what stands at its place
+-- a tone takes a rest where its command has a place and its rest's has none, and a high noise so too; then it is judged by what stands at its place
 module _ (s : List ℕ) (place rest high : ℕ) where
+  pub rest-taken-at : takesRest (knownAt s place rest high) ≡ ltb 0 place && not (ltb 0 rest)
+  rest-taken-at = rw (described-at s rest high place)
+
+  pub high-taken-at : takesHigh (knownAt s place rest high) ≡ ltb 0 place && not (ltb 0 high)
+  high-taken-at = rw (described-at s rest high place)
+
   pub rest-judged : (g v : ℕ) → 0 < place → isRestOf g (entryAt s place rest high) v ≡ isRest g (toneAt s place) v
   rest-judged g v h = rw (entry-there s rest high place h)
 

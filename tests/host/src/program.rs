@@ -18,10 +18,11 @@ use std::time::Duration;
 pub const SHEETS: u64 = 600;
 const SEED: u64 = 2;
 /// The examples that there must be.
-const EXAMPLES: [&str; 8] = [
+const EXAMPLES: [&str; 9] = [
     "analyser",
     "cable_head",
     "long_cable",
+    "pump_drive",
     "refused",
     "sample",
     "short_cable",

@@ -1,5 +1,5 @@
 -- `guarded::guarded` meets its contract. Assumes nothing.
-use mathlib.Core.Path.{_≡_, ap, _∙_}
+use mathlib.Core.Path.{ap, _∙_}
 use lib.ListN.{length}
 use Rattle.sheet.specs.Reading.{accepted, reading}
 use Rattle.sheet.proofs.Uses.{ReadLine, read-line, refused-is}

@@ -1,5 +1,5 @@
 -- `guarded::load_line` meets its contract. Assumes nothing.
-use mathlib.Core.Path.{_≡_, refl}
+use mathlib.Core.Path.{refl}
 use Rattle.line.specs.Line.{tones}
 use Rattle.line.specs.Arrays.{arrays, ArraysOf}
 use Rattle.noises.specs.Noises.{atHigh}

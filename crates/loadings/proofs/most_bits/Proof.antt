@@ -1,5 +1,4 @@
 -- `loadings::most_bits` meets its contract. Assumes nothing.
-use mathlib.Core.Path.{_≡_}
 use Rattle.steps.specs.Tones.{noBits}
 use Rattle.loadings.proofs.Runs.{runnable, none-stands, rests-high, most-stands}
 use Rattle.loadings.proofs.most_bits.Statement.{statement}
