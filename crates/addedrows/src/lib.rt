@@ -1,4 +1,6 @@
 // The commands that add to a described tone, all of whose bytes are there: its rest and its high noise. Document 02, W6, W8 and W9.
+#![tactic(auto)]
+
 ghost use Rattle.std.specs.Prelude.{◌≡◌, ℕ, ◌+◌, ◌≤◌, ◌<◌, length};
 ghost use Rattle.sizes.specs.Sizes.{longest_sheet};
 ghost use Rattle.bigendian.specs.Number.{number};

@@ -1,5 +1,7 @@
 // Which tone a command of a sheet addresses, by a short command or by its twin, and where what it carries stands. Document 01, 'The line
 // sheet', and document 02, W8.
+#![tactic(auto)]
+
 ghost use Rattle.std.specs.Prelude.{◌≡◌, ◌+◌, ◌≤◌, ◌<◌, length, get_or};
 ghost use Rattle.bigendian.specs.Number.{byte_base, number};
 ghost use Rattle.addresses.specs.Addresses.{twin, code_of, number_width, short_of, addressed, carried_at};

@@ -1,4 +1,6 @@
 // What a host call returns, and the answers that it writes. Document 01: 'For a host program on the bench computer, written in C'.
+#![tactic(auto)]
+
 ghost use Rattle.std.specs.Prelude.{◌≡◌, ℕ, ◌≤◌, length};
 ghost use Rattle.sizes.specs.Sizes.{answer_room};
 ghost use Rattle.refusals.specs.Refusals.{refusal};

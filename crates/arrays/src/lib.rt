@@ -1,5 +1,7 @@
 // The tones of a sheet as arrays of numbers, so that the runs have one path for both kinds. Each tone is decoded from its place in the
 // sheet, once.
+#![tactic(auto)]
+
 ghost use Rattle.std.specs.Prelude.{◌≡◌, ◌<◌};
 ghost use Rattle.line.specs.Tone.{InRange};
 ghost use Rattle.line.specs.Line.{entry_steps};

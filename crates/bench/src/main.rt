@@ -1,5 +1,7 @@
 // The bench program: reads a sheet from standard input, loads it for most bits and prints the table, with what set each tone's limit.
 // Document 01, 'Sample line'; document 02, W3.
+#![tactic(auto)]
+
 ghost use Rattle.std.specs.Prelude.{◌*◌, ◌≤◌, length};
 ghost use Rattle.sizes.specs.Sizes.{most_tones, bytes_a_tone, limit_bytes_a_tone};
 

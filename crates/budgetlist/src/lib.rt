@@ -1,4 +1,6 @@
 // A list of budgets for one line: its entries, and what is wrong with a list. Document 02, W7.
+#![tactic(auto)]
+
 ghost use Rattle.std.specs.Prelude.{◌≡◌, ◌*◌, ◌+◌, ◌≤◌, length};
 ghost use Rattle.sizes.specs.Sizes.{budget_bytes};
 ghost use Rattle.lists.specs.First.{first};

@@ -1,4 +1,6 @@
 // Many budgets on one line, in one adding pass: total bits and total power for each budget of a list. Document 02, W7.
+#![tactic(auto)]
+
 ghost use Rattle.std.specs.Prelude.{List, ◌++◌, ◌≡◌, ℕ, ◌+◌, ◌*◌, ◌≤◌, length};
 ghost use Rattle.std.proofs.lemmas.List.Edits.{sets};
 ghost use Rattle.sizes.specs.Sizes.{most_tones, totals_bytes};

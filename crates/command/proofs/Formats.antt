@@ -45,12 +45,16 @@ wider-within {high} {high'} w low l = record {
 
 wider-width : (os' os : List Operand) → Paired Wider os' os → width os' ≡ width os
 wider-width [] [] a = refl
+wider-width [] (o ∷ os) a = elim a [ ]
+wider-width (o' ∷ os') [] a = elim a [ ]
 wider-width (o' ∷ os') (o ∷ os) a = rw (a.0.same_width, wider-width os' os a.1)
 
 -- wherever the operands are not refused, neither are the wider ones
 wider-operands : (seen : Seen) (s : List ℕ) (at : ℕ) (os' os : List Operand) (does : List ℕ → Command) → Paired Wider os' os
     → is_refused (operands_from seen s at os does) ≡ false → operands_from seen s at os' does ≡ operands_from seen s at os does
 wider-operands seen s at [] [] does a e = refl
+wider-operands seen s at [] (o ∷ os) does a e = elim a [ ]
+wider-operands seen s at (o' ∷ os') [] does a e = elim a [ ]
 wider-operands seen s at (o' ∷ os') (o ∷ os) does a e =
     rw a.0.same_width (by (o.judge seen v at) (o'.judge seen v at) (a.0.taken seen v at) (wider-operands next s (at + o.width) os' os does a.1) e)
   where
@@ -86,6 +90,8 @@ record Like (r' r : Row) : Type 0 where
 
 all-covered : (rs' rs : List Row) (code : ℕ) → Paired Like rs' rs → Covered (with_code rs code) (with_code rs' code)
 all-covered [] [] code a = tt
+all-covered [] (r ∷ rs) code a = elim a [ ]
+all-covered (r' ∷ rs') [] code a = elim a [ ]
 all-covered (r' ∷ rs') (r ∷ rs) code a =
     subst (λ (k : ℕ). Covered (with_code (r ∷ rs) code) (cond (eqb code k) (some r') (with_code rs' code))) (sym a.0.same_code)
     (by (eqb code r.code) (all-covered rs' rs code a.1))

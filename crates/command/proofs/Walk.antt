@@ -68,7 +68,7 @@ pub by-operands : (P : Command → Type 0) → ((q : Refusal) → P (Refused q))
     → (Passed seen s at os → P (does (values seen.before s at os))) → P (operands_from seen s at os does)
 by-operands P turned seen s at [] does h = h tt
 by-operands P turned seen s at (o ∷ os) does h =
-    by-judge (o.judge seen (number s at o.width) at) (λ e. by-operands P turned _ s (at + o.width) os does (λ p. h (e, p)))
+    by-judge (o.judge seen (number s at o.width) at) (λ e. by-operands P turned (record { header = seen.header; known = seen.known; before = seen.before ++ (number s at o.width ∷ []) }) s (at + o.width) os does (λ p. h (e, p)))
   where
     by-judge : (q : Option Refusal) {c : Command} → (q ≡ none → P c) → P (judged q c)
     by-judge (some r) k = turned r

@@ -1,5 +1,7 @@
 // The command at a place of a line sheet: document 01, 'The line sheet' and 'Why a sheet is turned down', and document 02, W1, W5, W6, W8 and
 // W9.
+#![tactic(auto)]
+
 ghost use Rattle.std.specs.Prelude.{◌≡◌, ◌+◌, ◌≤◌, length};
 ghost use Rattle.sizes.specs.Sizes.{longest_sheet};
 ghost use Rattle.gaps.specs.Gap.{parts};

@@ -1,4 +1,6 @@
 // The gap of a line, in either of the units that a sheet gives it in: document 01, 'Cost, power and limit of a tone', and document 02, W1.
+#![tactic(auto)]
+
 ghost use Rattle.std.specs.Prelude.{◌≡◌, ◌≤◌};
 ghost use Rattle.gaps.specs.Gap.{most_tenths, gap_of_tenths, TenthsTable, parts};
 

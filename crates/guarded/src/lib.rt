@@ -1,4 +1,6 @@
 // The guarded loading: the table for most bits at every high noise, and the total bits of the plain one. Document 02, W9.
+#![tactic(auto)]
+
 ghost use Rattle.std.specs.Prelude.{◌≡◌, ◌<◌, length};
 ghost use Rattle.line.specs.Tone.{InRange};
 ghost use Rattle.line.specs.Line.{Line};

@@ -1,4 +1,6 @@
 // The limits of a sheet's tones, each with what set it, into a lent buffer. Document 02, W3.
+#![tactic(auto)]
+
 ghost use Rattle.std.specs.Prelude.{[], ◌∷◌, ◌≡◌, ◌+◌, ◌*◌, ◌≤◌, length};
 ghost use Rattle.std.proofs.lemmas.List.Edits.{sets};
 ghost use Rattle.sizes.specs.Sizes.{limit_bytes_a_tone};

@@ -1,4 +1,6 @@
 // One tone of a line: document 01, 'Cost, power and limit of a tone'; document 02, W3 to W6.
+#![tactic(auto)]
+
 ghost use Rattle.std.specs.Prelude.{◌≡◌, ◌*◌, ◌^◌, ◌≤◌, ◌<◌};
 ghost use Rattle.readings.specs.Reading.{Usable, granted_cost};
 ghost use Rattle.line.specs.Line.{steps_of};

@@ -1,4 +1,6 @@
 // The library: every public call, on bytes. Document 01; document 02, W3, W7 and W9.
+#![tactic(auto)]
+
 ghost use Rattle.std.specs.Prelude.{◌≡◌, length};
 ghost use Rattle.loadings.specs.Loads.{load_answer, load_numbers, load_outcome, after_loading};
 ghost use Rattle.loadings.specs.Refits.{refit_answer, refit_numbers, refit_outcome, RefitsAs};

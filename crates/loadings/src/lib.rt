@@ -1,5 +1,7 @@
 // The loadings and the re-fit of a line's tones into a lent buffer, with refusals 8 to 11. Document 01, 'The loading runs' and 'Why a sheet
 // is turned down'.
+#![tactic(auto)]
+
 ghost use Rattle.std.specs.Prelude.{◌≡◌};
 ghost use Rattle.steps.specs.Tones.{total_bits};
 ghost use Rattle.steps.specs.Runs.{most_bits};

@@ -1,4 +1,6 @@
 // The one move that a rule names. Document 01, 'The loading runs'.
+#![tactic(auto)]
+
 ghost use Rattle.std.specs.Prelude.{◌≡◌, ◌^◌, ◌<◌};
 ghost use Rattle.steps.specs.Tones.{Tones, Table};
 ghost use Rattle.steps.specs.Runs.{earliest_free, take_if_fits, refit_step};

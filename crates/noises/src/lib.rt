@@ -1,4 +1,6 @@
 // The noises of a tone in a sheet, and a tone with another noise: document 02, W9.
+#![tactic(auto)]
+
 ghost use Rattle.std.specs.Prelude.{◌≡◌};
 ghost use Rattle.line.specs.Tone.{noise_of, has_noise};
 ghost use Rattle.places.specs.Places.{tone_at, high_at};

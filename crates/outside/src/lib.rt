@@ -1,5 +1,7 @@
 // Calls of the library that the C host does not have, as C entries for the tests alone: in no header, with the host's conventions.
 // Document 02, W7: 'the host keeps only document 01's calls'; W3 and W9 have calls of the library too.
+#![tactic(auto)]
+
 ghost use Rattle.std.specs.Prelude.{◌≡◌};
 ghost use Rattle.refusals.specs.Writing.{write_numbers};
 ghost use Rattle.guarded.specs.Guarded.{guarded_numbers};

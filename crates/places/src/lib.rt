@@ -1,5 +1,7 @@
 // What stands at a place of a sheet: the tone that a command describes and the rest that it gives, decoded where they are wanted. Document 01,
 // 'The line sheet', and document 02, W5, W6 and W8.
+#![tactic(auto)]
+
 ghost use Rattle.std.specs.Prelude.{◌≡◌};
 ghost use Rattle.line.specs.Tone.{is_rest, InRange};
 ghost use Rattle.places.specs.Places.{numbers_at, float_at, both_at, levels_at, ratio_at, tone_at, rest_from};

@@ -1,5 +1,7 @@
 // The rank of a step in the order of all steps: its size × the base of a rank, and the tone's number. So steps are ordered 'by size, then
 // by lower tone number', and one comparison tells which of two comes first. Document 01, 'Cost, power and limit of a tone'.
+#![tactic(auto)]
+
 ghost use Rattle.std.specs.Prelude.{◌≡◌, suc, ◌*◌, ◌^◌, ◌≤◌, ◌<◌, length, set};
 ghost use Rattle.sizes.specs.Sizes.{most_tones};
 ghost use Rattle.line.specs.Arrays.{arrays, ArraysInRange, Under, StepsRise, step_size};

@@ -1,4 +1,6 @@
 // The readings of the line analyser: which floats a sheet may have, the ratio of a reading, and its cost, exactly. Document 02, W5.
+#![tactic(auto)]
+
 ghost use Rattle.std.specs.Prelude.{false, ◌≡◌, ◌*◌, ◌^◌, ◌<◌, min};
 ghost use Rattle.std.specs.Float.{binary32};
 ghost use Rattle.std.specs.Float.Ieee.{of_bits, to_bits};

@@ -1,4 +1,6 @@
 // Why a sheet or a call is turned down, with number and place: document 01, 'Why a sheet is turned down', and document 02, W5 and W6.
+#![tactic(auto)]
+
 ghost use Rattle.std.specs.Prelude.{◌≡◌};
 ghost use Rattle.refusals.specs.Refusals.{refusal_number, refusal_place};
 

@@ -1,4 +1,6 @@
 // What the rests of a line add up to, by the places of their commands in the sheet: document 02, W6.
+#![tactic(auto)]
+
 ghost use Rattle.std.specs.Prelude.{◌≡◌, ◌≤◌, ◌<◌};
 ghost use Rattle.sizes.specs.Sizes.{most_tones};
 ghost use Rattle.rests.specs.Rests.{sent_at, rests_sent};

@@ -1,5 +1,7 @@
 // The commands of a line sheet, one row for each, and the code that judges their operands: document 01, 'The line sheet' and 'Why a sheet is
 // turned down', and document 02, W1, W5, W6, W8 and W9.
+#![tactic(auto)]
+
 ghost use Rattle.std.specs.Prelude.{◌≡◌, ◌+◌, ◌≤◌, length};
 ghost use Rattle.sizes.specs.Sizes.{longest_sheet, tenths_command, levels_command, silence_command};
 ghost use Rattle.refusals.specs.declared.Refusal.TheVariants.{OperandOutOfRange};

@@ -116,9 +116,9 @@ module _ {count : ℕ} {A : Arrays} {r : Running} {T : Tones} {t : Table} (S : S
   held-and-free {h} {f} N =
       let B = S.table in
       let E = earliest N.takes in
-      let L = latest N.Gives-up in
+      let L = latest N.gives_up in
       let q = before-place T E.free.tone N.before in (
-        last-held N.Gives-up,
+        last-held N.gives_up,
         record {
           free = (earliest-giving_up T B.rising B.within E L q).free;
           sized = N.takes.sized ∙ ap (step T f.tone) (sym (same_bits T B.rising B.within E L q));

@@ -1,5 +1,7 @@
 // The running table, the moves that change it, and the step of a rule. Document 01, 'The loading runs': 'The running table goes into a step
 // and comes back with the answer 'moved' or 'finished'.'
+#![tactic(auto)]
+
 ghost use Rattle.std.specs.Prelude.{◌≡◌, ◌<◌};
 ghost use Rattle.steps.specs.Runs.{taking, giving_up};
 ghost use Rattle.line.specs.Arrays.{arrays};

@@ -1,4 +1,6 @@
 // The buffers of the test program: filled, compared, kept in bounds.
+#![tactic(auto)]
+
 ghost use Rattle.std.specs.Prelude.{ℕ, ◌<◌, min, true, false, ◌≡◌, length, get_or};
 ghost use Rattle.io.specs.Counts.{IsPrefixLen};
 ghost use Rattle.samplebuffers.specs.Buffers.{room, fill, text_room, SameBytes};

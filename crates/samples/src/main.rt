@@ -11,6 +11,8 @@
 //
 // SHEET, START and LIST are bytes as crate sampletext reads them, and `-` where there are none. An empty
 // line is skipped, and a line that starts with `#` is written back.
+#![tactic(auto)]
+
 mod loads;
 mod printing;
 

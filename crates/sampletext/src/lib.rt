@@ -3,6 +3,8 @@
 // Two hex digits are a byte, with blanks between or not. `hh*n` repeats the byte hh n times, and
 // `(..)*n` what stands between, which has no such group in it. `++` is a byte that counts from 0, one
 // more each time, and `==` is that byte again. Any other character is passed over.
+#![tactic(auto)]
+
 ghost use Rattle.std.specs.Prelude.{◌≡◌, ◌+◌, ◌<◌, ◌≤◌, min, max, length, drop};
 ghost use Rattle.io.specs.Counts.{IsPrefixLen};
 ghost use Rattle.sampletext.specs.Text.{skipped, digit_of, spelled};

@@ -1,5 +1,7 @@
 // The search for the earliest free step, and for the latest held one, whose ranks are counted down: a scan over the ranks that are kept
 // of each tone. What it promises, `LeastOf`, asks nothing of the way it is found.
+#![tactic(auto)]
+
 ghost use Rattle.std.specs.Prelude.{cond, ◌≡◌, ◌≤◌, ltb};
 ghost use Rattle.sizes.specs.Sizes.{most_tones};
 ghost use Rattle.ranks.specs.Ranks.{NoneFrom, LeastOf};

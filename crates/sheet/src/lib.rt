@@ -1,5 +1,7 @@
 // Reading a line sheet: document 01, 'The line sheet' and 'Why a sheet is turned down'. The bytes are checked once; what is left is an
 // index into them, in lent arrays. Document 02, W6: then whether the rests keep the budget.
+#![tactic(auto)]
+
 ghost use Rattle.std.specs.Prelude.{List, ◌≡◌, ℕ, ◌≤◌, ◌<◌, ltb, length, get_or, replicate};
 ghost use Rattle.sizes.specs.Sizes.{most_tones, most_words};
 ghost use Rattle.silence.specs.Map.{count};

@@ -1,4 +1,6 @@
 // The silence maps of a line: a word for each 32 tones.
+#![tactic(auto)]
+
 ghost use Rattle.std.specs.Prelude.{◌≡◌, ◌<◌, eqb};
 ghost use Rattle.sizes.specs.Sizes.{most_tones, word_tones};
 ghost use Rattle.silence.specs.Map.{bit, silenced, names_beyond, count};

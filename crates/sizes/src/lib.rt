@@ -1,4 +1,5 @@
 // The sizes that documents 01 and 02 set, each named once. specs/Sizes.antt has the same names for the definitions.
+#![tactic(auto)]
 
 // The most tones of a line.
 pub const TONES: usize = 1024;

@@ -1,4 +1,6 @@
 // Where the runs start: the table of no bits, or a starting table. Document 01, 'The loading runs' and refusal 10.
+#![tactic(auto)]
+
 ghost use Rattle.std.specs.Prelude.{List, ◌≡◌, ℕ, ◌≤◌, length};
 ghost use Rattle.sizes.specs.Sizes.{most_tones};
 ghost use Rattle.steps.specs.Tones.{Tones};

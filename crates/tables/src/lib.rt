@@ -1,4 +1,6 @@
 // The table that a loading writes: document 01, 'The line sheet'.
+#![tactic(auto)]
+
 ghost use Rattle.std.specs.Prelude.{List, ◌∷◌, ◌≡◌, ℕ, ◌+◌, ◌*◌, ◌≤◌, length};
 ghost use Rattle.std.proofs.lemmas.List.Edits.{sets};
 ghost use Rattle.sizes.specs.Sizes.{most_tones, bytes_a_tone};

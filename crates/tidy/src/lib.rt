@@ -1,4 +1,6 @@
 // Tidying a sheet: document 01, 'The line sheet', and document 02, W1, W5, W6, W8 and W9.
+#![tactic(auto)]
+
 mod writer;
 
 ghost use Rattle.std.specs.Prelude.{◌≡◌, ◌*◌, ◌≤◌, length};

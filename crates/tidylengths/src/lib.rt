@@ -1,5 +1,7 @@
 // How many bytes the described tones of the tidy form take, as they are copied from the sheet. Document 01, 'The line sheet', and document
 // 02, W5, W6, W8 and W9.
+#![tactic(auto)]
+
 ghost use Rattle.std.specs.Prelude.{◌≡◌, ℕ, ◌+◌, ◌*◌, ◌≤◌, ◌<◌, length, get_or};
 ghost use Rattle.sizes.specs.Sizes.{most_tones, levels_command};
 ghost use Rattle.tidyform.specs.Tidy.{tidy_width};

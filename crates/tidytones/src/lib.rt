@@ -1,4 +1,6 @@
 // The described tones of the tidy form, written into a lent buffer. Document 01, 'The line sheet', and document 02, W5, W6, W8 and W9.
+#![tactic(auto)]
+
 ghost use Rattle.std.specs.Prelude.{◌≡◌, ℕ, ◌+◌, ◌≤◌, ◌<◌, length, get_or};
 ghost use Rattle.std.proofs.lemmas.List.Edits.{sets};
 ghost use Rattle.sizes.specs.Sizes.{most_tones};

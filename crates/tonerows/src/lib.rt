@@ -1,5 +1,7 @@
 // The commands that describe a tone, all of whose bytes are there, from one operand to the next: document 01, 'The line sheet' and 'Why a
 // sheet is turned down', and document 02, W5 and W8.
+#![tactic(auto)]
+
 ghost use Rattle.std.specs.Prelude.{List, [], ◌∷◌, ◌≡◌, ℕ, ◌+◌, ◌≤◌, length};
 ghost use Rattle.sizes.specs.Sizes.{longest_sheet};
 ghost use Rattle.refusals.specs.declared.Refusal.TheVariants.{FloatOutOfRange, CostOutOfRange};

@@ -1,4 +1,6 @@
 // The host's calls, for C: include/toqhaymi.h documents them. Document 01: 'For a host program on the bench computer, written in C'.
+#![tactic(auto)]
+
 ghost use Rattle.std.specs.Prelude.{◌≡◌};
 ghost use Rattle.loader.specs.Calls.{load_most, load_target, refit, one_step};
 ghost use Rattle.answers.specs.Answers.{code, answered};

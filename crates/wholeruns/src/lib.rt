@@ -1,5 +1,7 @@
 // The whole run of a rule: steps until one answers 'finished', counted. Document 01, 'The loading runs': 'Re-fit run. Steps until finished; it
 // reports how many moved.'
+#![tactic(auto)]
+
 ghost use Rattle.line.specs.Arrays.{arrays};
 ghost use Rattle.ranks.specs.Ranks.{Ranked};
 ghost use Rattle.running.specs.Running.{Runnable};
