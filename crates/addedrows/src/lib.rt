@@ -18,7 +18,7 @@ use refusals::Refusal;
 use rows::{Command, Header};
 
 // Whether a tone takes a command that it may have once: its number, or why it does not.
-#[derive(Drop)]
+#[derive(Clone, Copy)]
 pub enum Adding {
     To(u16),
     Refused(Refusal),

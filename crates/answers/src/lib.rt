@@ -17,7 +17,7 @@ use sheet::Checked;
 use tidy::Tidied;
 
 // What a host call answers: the number that it returns, and three numbers, of which it writes the first `count`.
-#[derive(Drop)]
+#[derive(Clone, Copy)]
 pub struct Reply {
     pub returned: u64,
     pub count: usize,

@@ -10,14 +10,14 @@ use refusals::Refusal;
 use sizes::{BUDGET_BYTES, BUDGETS, MOST_POWER};
 
 // The first entry that is too large or below the one before it, if any.
-#[derive(Drop)]
+#[derive(Clone, Copy)]
 pub enum Fault {
     Nowhere,
     Entry(usize),
 }
 
 // A list has so many budgets, or is refused.
-#[derive(Drop)]
+#[derive(Clone, Copy)]
 pub enum Listed {
     Budgets(usize),
     Refused(Refusal),

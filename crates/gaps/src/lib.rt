@@ -11,7 +11,7 @@ pub const GAP_UNIT: u64 = 256;
 pub const MOST_TENTHS: u8 = 240;
 
 // A gap in parts of 256, or in tenths of a decibel. Which of the two a sheet has belongs to the line.
-#[derive(Drop)]
+#[derive(Clone, Copy)]
 pub enum Gap {
     Parts(u16),
     Tenths(u8),

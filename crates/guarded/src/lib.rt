@@ -18,14 +18,14 @@ use sheet::Read;
 use sizes::{TONES, WORDS};
 
 // What a guarded loading answers: total bits, total power, and the total bits of the plain loading; or why it is refused.
-#[derive(Drop)]
+#[derive(Clone, Copy)]
 pub enum GuardedLoad {
     Totals(u32, u64, u32),
     Refused(Refusal),
 }
 
 // What a higher noise changes of a tone: its limit and its cost.
-#[derive(Drop)]
+#[derive(Clone, Copy)]
 struct Raised {
     limit: u8,
     cost: u32,

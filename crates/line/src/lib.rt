@@ -13,7 +13,7 @@ use readings::Reading;
 use sizes::{PAIR_CAP, SINGLE_CAP};
 
 // What a tone with whole numbers carries, of either kind: noise, gain, cap and mask.
-#[derive(Drop)]
+#[derive(Clone, Copy)]
 pub struct Numbers {
     pub noise: u16,
     pub gain: u16,
@@ -22,7 +22,7 @@ pub struct Numbers {
 }
 
 // What a tone carries whose noise and gain came from the line analyser: the reading, cap and mask.
-#[derive(Drop)]
+#[derive(Clone, Copy)]
 pub struct ReadNumbers {
     pub reading: Reading,
     pub cap: u8,
@@ -30,27 +30,27 @@ pub struct ReadNumbers {
 }
 
 // A pair tone is two-dimensional, a single tone one-dimensional. A tone with a reading is a pair tone from its cost on.
-#[derive(Drop)]
+#[derive(Clone, Copy)]
 pub enum Kind {
     Pair(Numbers),
     Single(Numbers),
     Read(ReadNumbers),
 }
 
-#[derive(Drop)]
+#[derive(Clone, Copy)]
 pub struct Tone {
     pub kind: Kind,
 }
 
 // What bounds the bits of a tone, whichever its kind.
-#[derive(Drop)]
+#[derive(Clone, Copy)]
 struct Bounds {
     cap: u8,
     mask: u64,
 }
 
 // What set a tone's limit. A tone that is not described, or is silenced, is silent.
-#[derive(Drop)]
+#[derive(Clone, Copy)]
 pub enum SetBy {
     Silent,
     Cap,
@@ -58,14 +58,14 @@ pub enum SetBy {
 }
 
 // A tone's limit comes with what set it.
-#[derive(Drop)]
+#[derive(Clone, Copy)]
 pub struct Limit {
     pub bits: u8,
     pub by: SetBy,
 }
 
 // What the search for a limit answers: the limit, and how many powers it tried.
-#[derive(Drop)]
+#[derive(Clone, Copy)]
 struct Tried {
     limit: Limit,
     tries: u8,
@@ -73,7 +73,7 @@ struct Tried {
 
 // What is found of a tone, whichever its kind: its limit, and for the runs its powers. The power of b bits is the cost, doubled
 // `doublings` × b times, less the cost; the power of no bits is the rest.
-#[derive(Drop)]
+#[derive(Clone, Copy)]
 pub struct Steps {
     pub limit: Limit,
     pub cost: u32,

@@ -16,14 +16,14 @@ use sizes::{MOST_BITS, TONE_BYTES, TONES};
 use starts::Above;
 
 // What a loading answers: total bits and total power; or why it is refused.
-#[derive(Drop)]
+#[derive(Clone, Copy)]
 pub enum Loaded {
     Totals(u32, u64),
     Refused(Refusal),
 }
 
 // What a re-fit answers: total bits, total power and the move count; or why it is refused.
-#[derive(Drop)]
+#[derive(Clone, Copy)]
 pub enum Refitted {
     Totals(u32, u64, u32),
     Refused(Refusal),

@@ -10,21 +10,21 @@ ghost use Rattle.moves.specs.Moves.{rule_of, step_at, Knows, CallsFor};
 use ranks::RANK_BASE;
 
 // Adding takes the earliest free step; re-fitting exchanges, gives up or takes.
-#[derive(Drop)]
+#[derive(Clone, Copy)]
 pub enum Rule {
     Add,
     Refit,
 }
 
 // A step of a tone, and its size.
-#[derive(Drop)]
+#[derive(Clone, Copy)]
 pub struct Step {
     pub tone: usize,
     pub size: u64,
 }
 
 // What a rule names: nothing, or one move. An exchange gives up its first step and takes its second.
-#[derive(Drop)]
+#[derive(Clone, Copy)]
 pub enum Move {
     Nothing,
     Take(Step),

@@ -17,21 +17,21 @@ const INFINITY: u32 = 0x7f80_0000;
 const FRACTIONS: u32 = 0x80_0000;
 
 // Noise and gain as floats.
-#[derive(Drop)]
+#[derive(Clone, Copy)]
 pub struct Levels {
     pub noise: f32,
     pub gain: f32,
 }
 
 // What the analyser delivers of a tone: noise and gain, or their ratio.
-#[derive(Drop)]
+#[derive(Clone, Copy)]
 pub enum Reading {
     Both(Levels),
     Ratio(f32),
 }
 
 // The exact value of a float that is finite and not below zero: the mantissa × 2^exponent / 2^149.
-#[derive(Drop)]
+#[derive(Clone, Copy)]
 struct Exact {
     mantissa: u32,
     exponent: u32,

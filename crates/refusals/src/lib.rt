@@ -5,7 +5,7 @@ ghost use Rattle.std.specs.Prelude.{◌≡◌};
 ghost use Rattle.refusals.specs.Refusals.{refusal_number, refusal_place};
 
 // Document 01's list in its order, then document 02's, each case with its place where that is not 0.
-#[derive(Drop)]
+#[derive(Clone, Copy)]
 pub enum Refusal {
     SheetTooLong,
     SheetEnds(u16),
@@ -26,7 +26,7 @@ pub enum Refusal {
 }
 
 // What a call answers that only writes: that its bytes are written, or why it is refused.
-#[derive(Drop)]
+#[derive(Clone, Copy)]
 pub enum WriteAnswer {
     Written,
     Refused(Refusal),

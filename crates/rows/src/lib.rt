@@ -18,7 +18,7 @@ use sizes::{
 };
 
 // What the first three commands give: N, the gap and the budget; 0 for what is not given yet.
-#[derive(Drop)]
+#[derive(Clone, Copy)]
 pub struct Header {
     pub size: u16,
     pub gap: Gap,
@@ -27,7 +27,7 @@ pub struct Header {
 
 // What a command does, or why it is refused: it ends the sheet, makes a new header, describes a tone, gives one its rest or its high
 // noise, or silences the tones of a map. A later command has one of these effects too.
-#[derive(Drop)]
+#[derive(Clone, Copy)]
 pub enum Command {
     End,
     Refused(Refusal),
@@ -39,7 +39,7 @@ pub enum Command {
 }
 
 // A command, and the place after it.
-#[derive(Drop)]
+#[derive(Clone, Copy)]
 pub struct Decoded {
     pub command: Command,
     pub next: usize,

@@ -12,7 +12,7 @@ use moves::{Move, Rule, Step};
 use sizes::TONES;
 
 // The sums over the tones of a table's bits and of its powers.
-#[derive(Drop)]
+#[derive(Clone, Copy)]
 pub struct Totals {
     pub bits: u32,
     pub power: u64,
@@ -26,7 +26,7 @@ pub struct Running {
 }
 
 // What a step answers.
-#[derive(Drop)]
+#[derive(Clone, Copy)]
 pub enum Progress {
     Moved,
     Finished,

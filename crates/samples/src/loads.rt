@@ -28,7 +28,7 @@ use sizes::{BUDGET_BYTES, LIMIT_BYTES, TONE_BYTES, TOTALS_BYTES};
 const PRINTED_BYTES: usize = 32 * TONE_BYTES;
 
 // A loading, a re-fit, the limits, the totals for many budgets or the guarded loading.
-#[derive(Drop)]
+#[derive(Clone, Copy)]
 pub(crate) enum Call {
     Most,
     Target(u32),
@@ -42,7 +42,7 @@ pub(crate) enum Call {
 // What a call answers: a refusal's number and place, or number 0 and the totals. The third is a re-fit's
 // moves, or the plain loading's bits beside a guarded one's; a loading has none, and the calls that only
 // write have no totals.
-#[derive(Drop)]
+#[derive(Clone, Copy)]
 struct Totals {
     number: u32,
     place: u32,

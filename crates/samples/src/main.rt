@@ -27,7 +27,7 @@ use sheet::Checked;
 use tidy::Tidied;
 
 // What tidying answers: a refusal's number and place, or number 0 and the length.
-#[derive(Drop)]
+#[derive(Clone, Copy)]
 struct Outcome {
     number: u32,
     place: u32,

@@ -10,7 +10,7 @@ ghost use Rattle.io.specs.Counts.{IsPrefixLen};
 ghost use Rattle.sampletext.specs.Text.{skipped, digit_of, spelled};
 
 // A decimal number of the text, and where it ends.
-#[derive(Drop)]
+#[derive(Clone, Copy)]
 struct Number {
     value: usize,
     next: usize,
@@ -18,7 +18,7 @@ struct Number {
 
 // A byte of the text, how often it stands there, where the next item may start, and what `++` counts
 // on from.
-#[derive(Drop)]
+#[derive(Clone, Copy)]
 struct Item {
     byte: u8,
     times: usize,
@@ -27,7 +27,7 @@ struct Item {
 }
 
 // How far a reading is: how many bytes it has put, and what `++` counts on from.
-#[derive(Drop)]
+#[derive(Clone, Copy)]
 struct Reading {
     bytes: usize,
     last: u8,

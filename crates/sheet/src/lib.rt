@@ -19,7 +19,7 @@ use rows::{Command, Header};
 use sizes::{TONES, WORDS};
 
 // A sheet is accepted, with its header, or refused.
-#[derive(Drop)]
+#[derive(Clone, Copy)]
 pub enum Read {
     Accepted(Header),
     Refused(Refusal),
@@ -154,7 +154,7 @@ fn placed_count(size: u16, places: &[u16; TONES]) -> u16
 }
 
 // What a check of a sheet answers: N, the number of described tones and the number of silenced tones; or why it is refused.
-#[derive(Drop)]
+#[derive(Clone, Copy)]
 pub enum Checked {
     Counts(u16, u16, u16),
     Refused(Refusal),

@@ -11,7 +11,7 @@ use running::{Running, Totals};
 use sizes::TONES;
 
 // The first tone with more bits than its limit, if any.
-#[derive(Drop)]
+#[derive(Clone, Copy)]
 pub enum Above {
     Nowhere,
     Tone(usize),

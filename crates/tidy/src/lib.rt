@@ -47,7 +47,7 @@ fn words_bytes(maps: &[u32; WORDS]) -> usize
 }
 
 // What tidying a sheet answers: the length of the tidy form, or why it is refused.
-#[derive(Drop)]
+#[derive(Clone, Copy)]
 pub enum Tidied {
     Length(usize),
     Refused(Refusal),

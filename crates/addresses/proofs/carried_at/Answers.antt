@@ -1,0 +1,6 @@
+-- `addresses::carried_at` meets its contract. Assumes nothing.
+use borrow.Author.Rules.{rules}
+use Rattle.addresses.proofs.carried_at.Goals as goal
+
+pub returns : goal.returns
+returns c = rw (c.number_width.ensures.0, c.byte_at.ensures)

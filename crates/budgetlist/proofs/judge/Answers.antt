@@ -1,0 +1,51 @@
+-- `budgetlist::judge` meets its contract. Assumes nothing.
+use mathlib.Core.Bool.{false, not}
+use mathlib.Core.List.{List}
+use mathlib.Core.Logic.{inl, inr}
+use mathlib.Core.Option.{none, some}
+use mathlib.Core.Path.{◌≡◌, sym, ap, ◌∙◌}
+use Prim.Native.Nat.{ℕ, ◌%◌, ◌≤◌}
+use native.Mathlib.Omega.{arith}
+use borrow.Author.Rules.{rules}
+use borrow.Author.Tests.{ltb-true, ltb-false, eqb-true, eqb-false, not-true, not-false}
+use lib.Dec.{ltb, eqb}
+use lib.ListN.{length}
+use Rattle.sizes.specs.Sizes.{most_budgets, budget_bytes}
+use Rattle.budgetlist.specs.Budgets.{budget_count, fault_at}
+use Rattle.budgetlist.proofs.Laws.{RightLength, wrong-length, by_entries, found_inside}
+use Rattle.budgetlist.proofs.judge.Goals.{then-list-lt1-via-then-list-lt1, then-list-lt1-via-else-list-lt1+then-list-ne0, then-list-lt1-via-else-list-lt1+else-list-ne0+then-count-gt-BUDGETS}
+use Rattle.budgetlist.proofs.judge.Goals as goal
+
+-- the three tests of the length, failed
+right : (list : List ℕ) → 1 ≤ length list → length list % budget_bytes ≡ 0 → budget_count list ≤ most_budgets → RightLength list
+right list h e f = record { not_empty = h; no_part = e; not_long = f }
+
+pub returns-then-list-lt1 : goal.returns-then-list-lt1
+returns-then-list-lt1 c =
+    let list = c.args.list.now in
+    rw (wrong-length list (λ h. elim c.then-list-lt1.branch [
+      | then-list-lt1-via-then-list-lt1 w ↦ omega (arith, h.not_empty)
+      | then-list-lt1-via-else-list-lt1+then-list-ne0 w ↦ omega (arith, h.no_part)
+      | then-list-lt1-via-else-list-lt1+else-list-ne0+then-count-gt-BUDGETS w ↦ omega (arith, h.not_long)
+    ]))
+
+pub overflow_cast-result : goal.overflow_cast-result
+overflow_cast-result c =
+    let a = c in
+    let list = a.args.list.now in
+    let inside = found_inside list (sym a.first_fault-fault.ensures ∙ ap fault_at c.in-Entry.is) in
+    omega (arith, inside)
+
+pub returns-in-Entry : goal.returns-in-Entry
+returns-in-Entry c =
+    let a = c in
+    let list = a.args.list.now in
+    let h = right list (omega arith) a.if-list-ne0.false a.if-count-gt-BUDGETS.false in
+    rw (by_entries list h (some c.in-Entry.k) (sym a.first_fault-fault.ensures ∙ ap fault_at c.in-Entry.is))
+
+pub returns-in-Nowhere : goal.returns-in-Nowhere
+returns-in-Nowhere c =
+    let a = c in
+    let list = a.args.list.now in
+    let h = right list (omega arith) a.if-list-ne0.false a.if-count-gt-BUDGETS.false in
+    rw (by_entries list h none (sym a.first_fault-fault.ensures ∙ ap fault_at c.in-Nowhere.is))
