@@ -1,0 +1,69 @@
+-- `addedrows::high_command` meets its contract. Assumes nothing.
+use mathlib.Core.Bool.{Bool}
+use mathlib.Core.Path.{◌≡◌, sym, ap, ◌∙◌}
+use Prim.Native.Nat.{ℕ, ◌+◌, ◌<◌}
+use native.Mathlib.Omega.{arith}
+use borrow.Author.Tests.{le-ltb, lt-ltb, not-true, not-false}
+use Rattle.bigendian.specs.Number.{number}
+use Rattle.bigendian.proofs.Numbers.{number-there}
+use Rattle.addresses.specs.Addresses.{number_width}
+use Rattle.places.specs.Places.{entry_at}
+use Rattle.noises.specs.Noises.{entry_has_noise, entry_low}
+use Rattle.rows.specs.declared.Command.TheVariants as command
+use Rattle.rows.proofs.Judging.{out_of_range, noise-judged, low-judged}
+use Rattle.addedrows.specs.Adding.{takes_at, adding_to}
+use Rattle.addedrows.specs.declared.Adding.TheVariants.{To}
+use Rattle.addedrows.proofs.Judged.{adding-tone, adding-taken, taken-there, high-adding}
+use borrow.Author.Rules.{rules}
+use Rattle.addedrows.proofs.high_command.Goals.{After-has_noise, After-noise_at, After-number_at-high, In-To, Start}
+use Rattle.addedrows.proofs.high_command.Goals as goal
+
+-- what the tone comes to, by the code's account of it
+takes : (c : In-To) → let a = c.args in
+    adding_to a.header.size (number a.s.now (a.at + 1) (number_width a.code)) (a.at + 1) (takes_at a.place a.widened) ≡ To c.in-To.tone
+takes c = sym c.judge_tone-adding.ensures ∙ c.in-To.is
+
+there : (c : In-To) → 0 < c.args.place
+there c = let a = c.args in taken-there a.place a.widened (adding-taken a.header.size (number a.s.now (a.at + 1) (number_width a.code)) (a.at + 1) (takes_at a.place a.widened) _ (takes c))
+
+-- whether the tone has a noise, and which, as the code finds it
+has : (c : After-has_noise) (rested : ℕ) (b : Bool) → c.has_noise.result ≡ b → let a = c.args in entry_has_noise (entry_at a.s.now a.place rested a.widened) ≡ b
+has c rested b e = let a = c.args in noise-judged a.s.now a.place rested a.widened (there c) ∙ sym c.has_noise.ensures ∙ e
+
+low : (c : After-noise_at) (rested : ℕ) → let a = c.args in c.noise_at.result ≡ entry_low (entry_at a.s.now a.place rested a.widened)
+low c rested = let a = c.args in c.noise_at.ensures ∙ sym (low-judged a.s.now a.place rested a.widened (there c))
+
+-- the high noise as the code has it
+abbrev value : Start → ℕ
+value c = number c.args.s.now (c.args.at + 1 + number_width c.args.code) 2
+
+high_read : (c : After-number_at-high) → c.number_at-high.result ≡ value c
+high_read c = rw c.number_width.ensures.0 at c.number_at-high.ensures.meaning ∙ number-there _ _ 2 (omega arith) (omega (arith, c.requires.code_in_bounds))
+
+pub returns-then-not-has_noise : goal.returns-then-not-has_noise
+returns-then-not-has_noise c = λ rested.
+    let a = c.args in
+    c.out_of_range.ensures
+    ∙ sym (high-adding a.header a.s.now a.at (number_width a.code) a.place rested a.widened ∙ rw (takes (goal.at.returns-then-not-has_noise c).In-To, has (goal.at.returns-then-not-has_noise c).After-has_noise rested _ (c.if-not-has_noise.true)))
+
+pub returns-then-high-noise_at : goal.returns-then-high-noise_at
+returns-then-high-noise_at c = λ rested.
+    let a = c.args in
+    c.out_of_range-then-high-noise_at.ensures
+    ∙ ap (λ (w : ℕ). out_of_range (a.at + 1 + w)) c.number_width.ensures.0
+    ∙ sym
+    (high-adding a.header a.s.now a.at (number_width a.code) a.place rested a.widened
+    ∙ rw (takes (goal.at.returns-then-high-noise_at c).In-To, has (goal.at.returns-then-high-noise_at c).After-has_noise rested _ (c.if-not-has_noise.false), lt-ltb _ _ (rw (high_read (goal.at.returns-then-high-noise_at c).After-number_at-high, low (goal.at.returns-then-high-noise_at c).After-noise_at rested) at c.if-high-noise_at.true)))
+
+pub returns-in-Refused : goal.returns-in-Refused
+returns-in-Refused c = λ rested.
+    let a = c.args in
+    sym (high-adding a.header a.s.now a.at (number_width a.code) a.place rested a.widened ∙ rw (sym c.judge_tone-adding.ensures ∙ c.in-Refused.is))
+
+pub returns-else-high-noise_at : goal.returns-else-high-noise_at
+returns-else-high-noise_at c = λ rested.
+    let a = c.args in
+    ap command.High (adding-tone a.header.size (number a.s.now (a.at + 1) (number_width a.code)) (a.at + 1) (takes_at a.place a.widened) _ (takes (goal.at.returns-else-high-noise_at c).In-To))
+    ∙ sym
+    (high-adding a.header a.s.now a.at (number_width a.code) a.place rested a.widened
+    ∙ rw (takes (goal.at.returns-else-high-noise_at c).In-To, has (goal.at.returns-else-high-noise_at c).After-has_noise rested _ (c.if-not-has_noise.false), le-ltb _ _ (rw (high_read (goal.at.returns-else-high-noise_at c).After-number_at-high, low (goal.at.returns-else-high-noise_at c).After-noise_at rested) at c.if-high-noise_at.false)))

@@ -1,0 +1,19 @@
+-- `command::row_at` meets its contract. Assumes nothing.
+use mathlib.Core.Path.{sym}
+use native.Mathlib.Omega.{arith}
+use borrow.Author.Rules.{rules}
+use Rattle.command.proofs.Rows.{row_cut, row-whole}
+use Rattle.command.proofs.row_at.Goals as goal
+
+pub returns-then-ends-at : goal.returns-then-ends-at
+returns-then-ends-at c =
+    let a = c.args in
+    sym (row_cut _ _ a.s.now a.at a.code c.bytes_of-bytes.ensures.0 (omega (arith, c.if-ends-at.true)))
+
+pub operands-requires : goal.operands-requires
+operands-requires c = (omega (arith, c.if-ends-at.false, c.bytes_of-bytes.ensures.0, c.requires.at_in_bounds), (omega arith, c.requires.s_len_bound.1))
+
+pub returns : goal.returns
+returns c =
+    rw c.operands.ensures
+    (sym (row-whole _ _ _ c.args.at c.args.code c.bytes_of-bytes.ensures.0 (omega (arith, c.if-ends-at.false, c.requires.at_in_bounds))))

@@ -1,0 +1,39 @@
+-- `ranks::held_rank` meets its contract. Assumes nothing.
+use mathlib.Core.Path.{refl}
+use Prim.Native.Nat.{◌-◌, ◌^◌, ◌<◌}
+use native.Mathlib.Nat.{le_trans, mul-le-mul_left}
+use native.Mathlib.Omega.{arith}
+use borrow.Author.Rules.{rules}
+use borrow.Author.Tests.{lt-ltb, le-ltb}
+use Rattle.ranks.specs.Ranks.{no_step}
+use Rattle.ranks.proofs.Sizes.{size_high}
+use Rattle.ranks.proofs.held_rank.Goals.{After-step_size}
+use Rattle.ranks.proofs.held_rank.Goals as goal
+
+pub step_size-requires : goal.step_size-requires
+step_size-requires c =
+    let p = c.requires.cost_bound in
+    (p.1.1 (omega arith), (p.0, (le_trans (mul-le-mul_left c.args.doublings (omega arith)) p.1.0, omega arith)))
+
+small : (c : After-step_size) → c.step_size.result < 2 ^ 39
+small c =
+    let a = c.args in
+    let p = step-size-requires c _ in
+    rw c.step_size.ensures (size_high a.cost a.doublings a.rest (a.bits - 1) p.1.0 p.1.1.0)
+
+pub overflow_mul-result : goal.overflow_mul-result
+overflow_mul-result c = record { fits = omega (arith, small (goal.at.overflow_mul-result c).After-step_size) }
+
+pub overflow_add-result : goal.overflow_add-result
+overflow_add-result c = record { fits = omega (arith, small (goal.at.overflow_add-result c).After-step_size, c.requires.tone_lt_most_tones) }
+
+pub overflow_sub-result : goal.overflow_sub-result
+overflow_sub-result c = omega (arith, small (goal.at.overflow_sub-result c).After-step_size, c.requires.tone_lt_most_tones)
+
+pub returns-then-bits-gt0 : goal.returns-then-bits-gt0
+unfolding no_step
+returns-then-bits-gt0 c = let a = c.args in rw (lt-ltb 0 a.bits (omega arith), c.step_size.ensures) refl
+
+pub returns : goal.returns
+unfolding no_step
+returns c = let a = c.args in rw (le-ltb 0 a.bits (omega arith)) refl

@@ -1,0 +1,19 @@
+-- `running::Running::exchange` meets its contract. Assumes nothing.
+use mathlib.Core.Path.{◌∙◌, ap}
+use borrow.Author.Rules.{rules}
+use Rattle.running.specs.declared.Running.{Running}
+use Rattle.running.specs.Running.{taken}
+use Rattle.running.proofs.Changes.{exchanges, both-followed}
+use Rattle.running.proofs.Running.exchange.Goals as goal
+
+pub take-requires : goal.take-requires
+take-requires c = rw (← c.give_up-self.ensures.value) at c.requires.can_take
+
+pub returns : goal.returns
+returns c =
+    let f = c.args.f in
+    let gave = c.give_up-self.ensures in
+    let took = c.take.ensures in (
+      took.0 ∙ ap (λ (r : Running). taken r f) gave.0,
+      (exchanges gave.1.0 took.1.0, both-followed gave.1.1 took.1.1),
+    )

@@ -1,0 +1,14 @@
+-- `tidytones::copy` meets its contract. Between the turns the first i bytes are copied. Assumes nothing.
+use mathlib.Core.Path.{◌≡◌, refl}
+use Prim.Native.Nat.{◌+◌, ◌-◌, ◌≤◌}
+use native.Mathlib.Nat.{add-zero}
+use native.Mathlib.Omega.{arith}
+use Rattle.lists.proofs.Joined.{Written, written_none, written_next}
+use Rattle.tidylengths.specs.Copies.{byte_from}
+use Rattle.tidytones.proofs.copy.Given as goal
+
+abbrev pub invariant-loop-i : goal.invariant-loop-i
+invariant-loop-i l = (l.i ≤ l.width) × Written (byte_from l.s l.from) l.initial.out l.at l.i l.out (l.at + l.i)
+
+abbrev pub decreases-loop-i : goal.decreases-loop-i
+decreases-loop-i l = l.width - l.i

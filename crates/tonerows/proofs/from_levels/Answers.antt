@@ -1,0 +1,76 @@
+-- `tonerows::from_levels` meets its contract. Assumes nothing.
+use mathlib.Core.Bool.{true}
+use mathlib.Core.List.{[], ◌∷◌}
+use mathlib.Core.Path.{◌≡◌, sym, ap, ◌∙◌}
+use Prim.Native.Nat.{◌+◌}
+use native.Mathlib.Omega.{arith}
+use borrow.Author.Rules.{rules}
+use borrow.Author.Tests.{not-true, not-false}
+use Rattle.bigendian.specs.Number.{number}
+use Rattle.bigendian.proofs.Numbers.{number-there}
+use Rattle.gaps.specs.Gap.{parts}
+use Rattle.readings.specs.Reading.{is_usable, is_over}
+use Rattle.readings.proofs.Readings.{usable-float}
+use Rattle.rows.specs.Rows.{levels_of}
+use Rattle.rows.proofs.Judging.{level-operands}
+use Rattle.tonerows.proofs.from_levels.Goals.{After-is_over, After-is_usable, After-is_usable-2, After-number_at-gain, After-number_at-noise, Else-not-is_usable, Else-not-is_usable-2}
+use Rattle.tonerows.proofs.from_levels.Goals as goal
+
+-- the bits of each float as the code has them, and what it makes of them
+noise-read : (c : After-number_at-noise) → let a = c.args in c.number_at-noise.result ≡ number a.s.now a.at 4
+noise-read c = c.number_at-noise.ensures.meaning ∙ number-there _ _ 4 (omega arith) (omega arith)
+
+gain-read : (c : After-number_at-gain) → let a = c.args in c.number_at-gain.result ≡ number a.s.now (a.at + 4) 4
+gain-read c = c.number_at-gain.ensures.meaning ∙ number-there _ _ 4 (omega arith) (omega arith)
+
+noise-judged : (c : After-is_usable) → let a = c.args in is_usable (number a.s.now a.at 4) ≡ c.is_usable.result
+noise-judged c = sym (c.is_usable.ensures ∙ ap is_usable (noise-read c))
+
+gain-judged : (c : After-is_usable-2) → let a = c.args in is_usable (number a.s.now (a.at + 4) 4) ≡ c.is_usable-2.result
+gain-judged c = sym (c.is_usable-2.ensures ∙ ap is_usable (gain-read c))
+
+pub returns-then-not-is_usable : goal.returns-then-not-is_usable
+returns-then-not-is_usable c = λ known.
+    let a = c.args in
+    let bad = noise-judged (goal.at.returns-then-not-is_usable c).After-is_usable ∙ c.if-not-is_usable.true in
+    c.float_out_of_range.ensures ∙ sym (level-operands a.header known a.s.now a.at a.tone ∙ rw bad)
+
+pub returns-then-not-is_usable-2 : goal.returns-then-not-is_usable-2
+returns-then-not-is_usable-2 c = λ known.
+    let a = c.args in
+    let good = noise-judged (goal.at.returns-then-not-is_usable-2 c).After-is_usable ∙ c.if-not-is_usable.false in
+    let bad = gain-judged (goal.at.returns-then-not-is_usable-2 c).After-is_usable-2 ∙ c.if-not-is_usable-2.true in
+    c.float_out_of_range-then-not-is_usable-2.ensures ∙ sym (level-operands a.header known a.s.now a.at a.tone ∙ rw (good, bad))
+
+-- they are usable where they were judged so
+noise-good : (c : Else-not-is_usable) → let a = c.args in is_usable (number a.s.now a.at 4) ≡ true
+noise-good c = noise-judged c ∙ c.if-not-is_usable.false
+
+gain-good : (c : Else-not-is_usable-2) → let a = c.args in is_usable (number a.s.now (a.at + 4) 4) ≡ true
+gain-good c = gain-judged c ∙ c.if-not-is_usable-2.false
+
+pub is_over-requires : goal.is_over-requires
+is_over-requires c =
+    let noise = usable-float _ (sym c.is_usable.ensures ∙ c.if-not-is_usable.false) in
+    let gain = usable-float _ (sym c.is_usable-2.ensures ∙ c.if-not-is_usable-2.false) in
+    (rw c.float_of.ensures noise, rw c.float_of-2.ensures gain)
+
+-- what is weighed with the gap
+over-as : (c : After-is_over) → let a = c.args in
+    is_over (parts a.header.gap) (levels_of (a.tone ∷ number a.s.now a.at 4 ∷ number a.s.now (a.at + 4) 4 ∷ [])) ≡ c.is_over.result
+over-as c =
+    sym (rw (c.parts.ensures, c.float_of.ensures, c.float_of-2.ensures, noise-read c, gain-read c) at c.is_over.ensures)
+
+pub returns-then-is_over : goal.returns-then-is_over
+returns-then-is_over c = λ known.
+    let a = c.args in
+    let over = over-as (goal.at.returns-then-is_over c).After-is_over ∙ c.if-is_over.true in
+    c.cost_out_of_range.ensures
+    ∙ sym (level-operands a.header known a.s.now a.at a.tone ∙ rw (noise-good (goal.at.returns-then-is_over c).Else-not-is_usable, gain-good (goal.at.returns-then-is_over c).Else-not-is_usable-2, over))
+
+pub returns : goal.returns
+returns c = λ known.
+    let a = c.args in
+    let within = over-as (goal.at.returns c).After-is_over ∙ c.if-is_over.false in
+    c.from_cap.ensures a.header known (number a.s.now a.at 4 ∷ number a.s.now (a.at + 4) 4 ∷ [])
+    ∙ sym (level-operands a.header known a.s.now a.at a.tone ∙ rw (noise-good (goal.at.returns c).Else-not-is_usable, gain-good (goal.at.returns c).Else-not-is_usable-2, within))
