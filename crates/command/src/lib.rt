@@ -36,9 +36,9 @@ fn is_allowed(stage: u8, code: u8) -> bool
 
 // What a command does that addresses no tone, all of whose bytes are there.
 fn line_operands(s: &[u8], at: usize, code: u8, header: Header) -> Command
-    requires fact { ToneCode code → ⊥ }
-    requires fact_2 { RestCode code → ⊥ }
-    requires fact_3 { HighCode code → ⊥ }
+    requires no_tone { ToneCode code → ⊥ }
+    requires no_rest { RestCode code → ⊥ }
+    requires no_high { HighCode code → ⊥ }
     requires code_in_bounds { at + command_bytes code ≤ length s.now }
     requires s_len_bound { length s.now ≤ longest_sheet }
     ensures { (known : Known) → result ≡ row_at header known s.now at (row_of code) }

@@ -1,13 +1,13 @@
 -- The tones of a line in range rise, so all that crate steps proves holds of its runs, where its rests keep the budget: demand 3 and the set
 -- number of bits.
 -- Assumes nothing.
-use mathlib.Core.Path.{◌≡◌, refl, ap, ◌∙◌}
+use mathlib.Core.Path.{◌≡◌, refl, ap}
 use mathlib.Core.Bool.{Bool, true, false}
 use Prim.Native.Nat.{ℕ, zero, suc, ◌+◌, ◌≤◌, ◌<◌}
 use native.Mathlib.Omega.{arith}
 use lib.ListN.{get_or-replicate, length-replicate}
 use Rattle.silence.specs.Map.{silenced}
-use Rattle.steps.specs.Tones.{Rising, Table, ◌!◌, no_bits, total_power, KeepsLimits, KeepsBudget}
+use Rattle.steps.specs.Tones.{Rising, Table, no_bits, total_power, KeepsLimits, KeepsBudget}
 use Rattle.steps.specs.Runs.{set_bits}
 use Rattle.steps.specs.Claims.{Demand3, SetBits}
 use Rattle.steps.proofs.Sums.{sum-eq}

@@ -4,7 +4,7 @@ use mathlib.Core.Bool.{cond}
 use mathlib.Core.Path.{◌≡◌, refl, ◌∙◌}
 use mathlib.Core.List.{List}
 use mathlib.Core.Logic.{◌≢◌}
-use Prim.Native.Nat.{ℕ, ◌+◌, ◌≤◌, ◌<◌}
+use Prim.Native.Nat.{ℕ, ◌+◌, ◌*◌, ◌≤◌, ◌<◌}
 use native.Mathlib.Decide.{dec_lt}
 use native.Mathlib.Omega.{arith}
 use borrow.Author.Tests.{ltb-true, ltb-false}
@@ -26,6 +26,13 @@ lesser_at ranks i j = lesser_of (get_or ranks i 0) (get_or ranks j 0)
 pub record Part (ranks : List ℕ) (m n r : ℕ) : Type 0 where
   pub low : (i : ℕ) → m ≤ i → i < n → r ≤ get_or ranks i 0
   pub among : r ≢ no_step → Among n ranks r
+
+-- the tones below i are passed; the number of tones at most is a multiple of eight, so eight more are there while one is
+pub record Passed (ranks : List ℕ) (least i : ℕ) : Type 0 where
+  pub turns : ℕ
+  pub eights : i ≡ 8 * turns
+  pub within : i ≤ most_tones
+  pub part : Part ranks 0 i least
 
 module _ {ranks : List ℕ} where
   pub none_yet : Part ranks 0 0 no_step

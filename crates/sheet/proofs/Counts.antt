@@ -46,8 +46,8 @@ module _ {s places rests highs maps : List ℕ} where
       rw x.means (cc)
 
 -- a check's answer, in the paper's numbers, is the outcome that the reading gives
-pub check-numbers : (m : Meaning) {c : Checked} → c ≡ checking m → (c ≡ checking m) × (check_numbers c ≡ check_outcome m)
-check-numbers m {c} e = (e, ap check_numbers e ∙ same m)
+pub check-numbers : (m : Meaning) {c : Checked} → c ≡ checking m → record { answer : c ≡ checking m; numbers : check_numbers c ≡ check_outcome m }
+check-numbers m {c} e = record { answer = e; numbers = ap check_numbers e ∙ same m }
   where
     same : (y : Meaning) → check_numbers (checking y) ≡ check_outcome y
     same (accepted l) = refl

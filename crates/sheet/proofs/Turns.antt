@@ -68,7 +68,7 @@ pub record Going (s places rests highs maps : List ℕ) (h : Header) (at stage :
 
 -- what reading the commands answers and leaves; where the sheet is refused, nothing is said of the arrays
 abbrev pub ReadingEnds : List ℕ → Read → (places rests highs maps : List ℕ) → Type 0
-ReadingEnds s r places rests highs maps = (r ≡ answer_of (said s)) × ((l : Line) → said s ≡ accepted l → Indexes s places rests highs maps l)
+ReadingEnds s r places rests highs maps = record { answer : r ≡ answer_of (said s); index : (l : Line) → said s ≡ accepted l → Indexes s places rests highs maps l }
 
 sized-bare : (h : Header) → Sized (bare_line h)
 sized-bare h = record { entries_sized = length-replicate h.size undescribed; maps_sized = length-replicate {A = ℕ} (words_of h.size) 0 }
@@ -159,7 +159,7 @@ module _ {s places rests highs maps : List ℕ} {h : Header} {at stage : ℕ} (g
     -- the reading ends with this command
     ends : (m : Meaning) → after_decoded d s at stage g.sofar ≡ stop m → ((l : Line) → m ≡ accepted l → Indexes s places rests highs maps l)
         → ReadingEnds s (answer_of m) places rests highs maps
-    ends m o k = (ap answer_of (after (stop m) o), λ l q. k l (after (stop m) o ∙ q))
+    ends m o k = record { answer = ap answer_of (after (stop m) o); index = λ l q. k l (after (stop m) o ∙ q) }
 
     -- a refusal indexes no line
     refuses : (q : Refusal) → after_decoded d s at stage g.sofar ≡ stop (refused q) → ReadingEnds s (answer_of (refused q)) places rests highs maps

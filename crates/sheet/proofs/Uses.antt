@@ -45,16 +45,16 @@ module _ {s places rests highs maps : List ℕ} where
 
   -- what the bytes say
   pub said-line : {r : Read} {h : Header} → ReadingEnds s r places rests highs maps → r ≡ read.Accepted h → Indexed s h places rests highs maps
-  said-line {r} {h} x e = by (said s) refl (sym x.0 ∙ e)
+  said-line {r} {h} x e = by (said s) refl (sym x.answer ∙ e)
     where
       by : (m : Meaning) → said s ≡ m → answer_of m ≡ read.Accepted h → Indexed s h places rests highs maps
-      by (accepted l) is f = record { line = l; means = is; header_is = cc; indexes = x.1 l is }
+      by (accepted l) is f = record { line = l; means = is; header_is = cc; indexes = x.index l is }
       by (refused q) is f =
           let z : ◌≡◌ {A = ℕ} 0 1 = cc in
           absurd (omega arith)
 
   pub said-refused : {r : Read} {q : Refusal} → ReadingEnds s r places rests highs maps → r ≡ read.Refused q → said s ≡ refused q
-  said-refused {r} {q} x e = by (said s) (sym x.0 ∙ e)
+  said-refused {r} {q} x e = by (said s) (sym x.answer ∙ e)
     where
       by : (m : Meaning) → answer_of m ≡ read.Refused q → m ≡ refused q
       by (accepted l) f =
@@ -63,11 +63,11 @@ module _ {s places rests highs maps : List ℕ} where
       by (refused q') f = cc
 
   pub judges : {r' r : Read} → ReadingEnds s r' places rests highs maps → JudgesRests s rests maps r' r → Judged s places rests highs maps r
-  judges {r'} {r} x j = record { answers = by (said s) refl; index = λ l e. x.1 l (accepted-is today s l e).says }
+  judges {r'} {r} x j = record { answers = by (said s) refl; index = λ l e. x.index l (accepted-is today s l e).says }
     where
       by : (m : Meaning) → said s ≡ m → r ≡ answer_of (reading s)
-      by (accepted l) e = j.of_line l places highs (x.0 ∙ ap answer_of e) (x.1 l e) ∙ ap answer_of (sym (reading-said today s (accepted l) e))
-      by (refused q) e = j.of_refusal q (x.0 ∙ ap answer_of e) ∙ ap answer_of (sym (reading-said today s (refused q) e))
+      by (accepted l) e = j.of_line l places highs (x.answer ∙ ap answer_of e) (x.index l e) ∙ ap answer_of (sym (reading-said today s (accepted l) e))
+      by (refused q) e = j.of_refusal q (x.answer ∙ ap answer_of e) ∙ ap answer_of (sym (reading-said today s (refused q) e))
 
   pub leaves-accepted : {r : Read} {h : Header} → Judged s places rests highs maps r → r ≡ read.Accepted h → ReadsAs s (read.Accepted h) places rests highs maps (reading s)
   leaves-accepted {r} {h} x e = by (reading s) (sym e ∙ x.answers) x.index

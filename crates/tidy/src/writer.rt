@@ -89,7 +89,7 @@ pub(crate) fn put_line(
     maps: &[u32; WORDS],
 )
     requires indexed { Indexed s.now header places.now rests.now highs.now maps.now }
-    requires l_in_bounds { (l : Line) → said s.now ≡ accepted l → length (tidy l) ≤ length out.old }
+    requires form_in_bounds { (l : Line) → said s.now ≡ accepted l → length (tidy l) ≤ length out.old }
     ensures { (l : Line) → said s.now ≡ accepted l → out.new ≡ sets out.old 0 (tidy l) }
 {
     let header_end = put_header(out, header);

@@ -10,8 +10,8 @@ use sizes::TONES;
 
 // Copies so many bytes of a sheet, to a place of the buffer.
 fn copy(s: &[u8], from: usize, width: usize, out: &mut [u8], at: usize)
-    requires width_in_bounds { from + width ≤ length s.now }
-    requires width_in_bounds_2 { at + width ≤ length out.old }
+    requires from_in_bounds { from + width ≤ length s.now }
+    requires at_in_bounds { at + width ≤ length out.old }
     ensures { out.new ≡ sets out.old at (part s.now from width) }
 {
     let mut i: usize = 0;
@@ -26,7 +26,7 @@ fn copy(s: &[u8], from: usize, width: usize, out: &mut [u8], at: usize)
 fn put_command(s: &[u8], tone: u16, place: u16, out: &mut [u8], at: usize) -> usize
     requires place_nonzero { 0 < place }
     requires inside { Inside s.now place }
-    requires place_in_bounds { at + length (command_copy s.now tone place) ≤ length out.old }
+    requires bytes_in_bounds { at + length (command_copy s.now tone place) ≤ length out.old }
     ensures place { result ≡ at + length (command_copy s.now tone place) }
     ensures bytes { out.new ≡ sets out.old at (command_copy s.now tone place) }
 {
@@ -44,7 +44,7 @@ fn put_command(s: &[u8], tone: u16, place: u16, out: &mut [u8], at: usize) -> us
 // The command that describes a tone, if one stands at a place of the sheet. Answers the place after it.
 fn put_own(s: &[u8], tone: u16, place: u16, out: &mut [u8], at: usize) -> usize
     requires inside { Inside s.now place }
-    requires place_in_bounds { at + length (tone_copy s.now tone place) ≤ length out.old }
+    requires bytes_in_bounds { at + length (tone_copy s.now tone place) ≤ length out.old }
     ensures place { result ≡ at + length (tone_copy s.now tone place) }
     ensures bytes { out.new ≡ sets out.old at (tone_copy s.now tone place) }
 {
@@ -57,7 +57,7 @@ fn put_own(s: &[u8], tone: u16, place: u16, out: &mut [u8], at: usize) -> usize
 // The command that gives its rest, if one stands at a place of the sheet whose rest is not 0. Answers the place after it.
 fn put_rest(s: &[u8], tone: u16, rested: u16, out: &mut [u8], at: usize) -> usize
     requires inside { Inside s.now rested }
-    requires rested_in_bounds { at + length (rest_copy s.now tone rested) ≤ length out.old }
+    requires bytes_in_bounds { at + length (rest_copy s.now tone rested) ≤ length out.old }
     ensures place { result ≡ at + length (rest_copy s.now tone rested) }
     ensures bytes { out.new ≡ sets out.old at (rest_copy s.now tone rested) }
 {
@@ -71,7 +71,7 @@ fn put_rest(s: &[u8], tone: u16, rested: u16, out: &mut [u8], at: usize) -> usiz
 // it.
 fn put_high(s: &[u8], tone: u16, place: u16, widened: u16, out: &mut [u8], at: usize) -> usize
     requires inside { Inside s.now widened }
-    requires widened_in_bounds { at + length (high_copy s.now tone place widened) ≤ length out.old }
+    requires bytes_in_bounds { at + length (high_copy s.now tone place widened) ≤ length out.old }
     ensures place { result ≡ at + length (high_copy s.now tone place widened) }
     ensures bytes { out.new ≡ sets out.old at (high_copy s.now tone place widened) }
 {
@@ -94,10 +94,10 @@ fn put_tone(
     out: &mut [u8],
     at: usize,
 ) -> usize
-    requires inside { Inside s.now place }
-    requires inside_2 { Inside s.now rested }
-    requires inside_3 { Inside s.now widened }
-    requires widened_in_bounds { at + length (entry_copy s.now tone place rested widened) ≤ length out.old }
+    requires own_inside { Inside s.now place }
+    requires rest_inside { Inside s.now rested }
+    requires high_inside { Inside s.now widened }
+    requires bytes_in_bounds { at + length (entry_copy s.now tone place rested widened) ≤ length out.old }
     ensures place { result ≡ at + length (entry_copy s.now tone place rested widened) }
     ensures bytes { out.new ≡ sets out.old at (entry_copy s.now tone place rested widened) }
 {

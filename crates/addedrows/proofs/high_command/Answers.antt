@@ -3,7 +3,7 @@ use mathlib.Core.Bool.{Bool}
 use mathlib.Core.Path.{◌≡◌, sym, ap, ◌∙◌}
 use Prim.Native.Nat.{ℕ, ◌+◌, ◌<◌}
 use native.Mathlib.Omega.{arith}
-use borrow.Author.Tests.{le-ltb, lt-ltb, not-true, not-false}
+use borrow.Author.Tests.{le-ltb, lt-ltb}
 use Rattle.bigendian.specs.Number.{number}
 use Rattle.bigendian.proofs.Numbers.{number-there}
 use Rattle.addresses.specs.Addresses.{number_width}
@@ -14,8 +14,7 @@ use Rattle.rows.proofs.Judging.{out_of_range, noise-judged, low-judged}
 use Rattle.addedrows.specs.Adding.{takes_at, adding_to}
 use Rattle.addedrows.specs.declared.Adding.TheVariants.{To}
 use Rattle.addedrows.proofs.Judged.{adding-tone, adding-taken, taken-there, high-adding}
-use borrow.Author.Rules.{rules}
-use Rattle.addedrows.proofs.high_command.Goals.{After-has_noise, After-noise_at, After-number_at-high, In-To, Start}
+use Rattle.addedrows.proofs.high_command.Goals.{After-has_noise, After-noise_at, After-number_at-high, In-To}
 use Rattle.addedrows.proofs.high_command.Goals as goal
 
 -- what the tone comes to, by the code's account of it
@@ -27,33 +26,33 @@ there : (c : In-To) → 0 < c.args.place
 there c = let a = c.args in taken-there a.place a.widened (adding-taken a.header.size (number a.s.now (a.at + 1) (number_width a.code)) (a.at + 1) (takes_at a.place a.widened) _ (takes c))
 
 -- whether the tone has a noise, and which, as the code finds it
-has : (c : After-has_noise) (rested : ℕ) (b : Bool) → c.has_noise.result ≡ b → let a = c.args in entry_has_noise (entry_at a.s.now a.place rested a.widened) ≡ b
-has c rested b e = let a = c.args in noise-judged a.s.now a.place rested a.widened (there c) ∙ sym c.has_noise.ensures ∙ e
+has : (c : After-has_noise) (rested : ℕ) (b : Bool) → let a = c.args in
+    0 < a.place → c.has_noise.result ≡ b → entry_has_noise (entry_at a.s.now a.place rested a.widened) ≡ b
+has c rested b l e = let a = c.args in noise-judged a.s.now a.place rested a.widened l ∙ sym c.has_noise.ensures ∙ e
 
-low : (c : After-noise_at) (rested : ℕ) → let a = c.args in c.noise_at.result ≡ entry_low (entry_at a.s.now a.place rested a.widened)
-low c rested = let a = c.args in c.noise_at.ensures ∙ sym (low-judged a.s.now a.place rested a.widened (there c))
+low : (c : After-noise_at) (rested : ℕ) → let a = c.args in 0 < a.place → c.noise_at.result ≡ entry_low (entry_at a.s.now a.place rested a.widened)
+low c rested l = let a = c.args in c.noise_at.ensures ∙ sym (low-judged a.s.now a.place rested a.widened l)
 
 -- the high noise as the code has it
-abbrev value : Start → ℕ
-value c = number c.args.s.now (c.args.at + 1 + number_width c.args.code) 2
-
-high_read : (c : After-number_at-high) → c.number_at-high.result ≡ value c
+high_read : (c : After-number_at-high) → let a = c.args in c.number_at-high.result ≡ number a.s.now (a.at + 1 + number_width a.code) 2
 high_read c = rw c.number_width.ensures.0 at c.number_at-high.ensures.meaning ∙ number-there _ _ 2 (omega arith) (omega (arith, c.requires.code_in_bounds))
 
 pub returns-then-not-has_noise : goal.returns-then-not-has_noise
 returns-then-not-has_noise c = λ rested.
     let a = c.args in
-    c.out_of_range.ensures
-    ∙ sym (high-adding a.header a.s.now a.at (number_width a.code) a.place rested a.widened ∙ rw (takes (goal.at.returns-then-not-has_noise c).In-To, has (goal.at.returns-then-not-has_noise c).After-has_noise rested _ (c.if-not-has_noise.true)))
+    let p = goal.at.returns-then-not-has_noise c in
+    let none = has p.After-has_noise rested _ (there p.In-To) c.if-not-has_noise.true in
+    c.out_of_range.ensures ∙ sym (high-adding a.header a.s.now a.at (number_width a.code) a.place rested a.widened ∙ rw (takes p.In-To, none))
 
 pub returns-then-high-noise_at : goal.returns-then-high-noise_at
 returns-then-high-noise_at c = λ rested.
     let a = c.args in
+    let p = goal.at.returns-then-high-noise_at c in
+    let some = has p.After-has_noise rested _ (there p.In-To) c.if-not-has_noise.false in
+    let below = rw (high_read p.After-number_at-high, low p.After-noise_at rested (there p.In-To)) at c.if-high-noise_at.true in
     c.out_of_range-then-high-noise_at.ensures
     ∙ ap (λ (w : ℕ). out_of_range (a.at + 1 + w)) c.number_width.ensures.0
-    ∙ sym
-    (high-adding a.header a.s.now a.at (number_width a.code) a.place rested a.widened
-    ∙ rw (takes (goal.at.returns-then-high-noise_at c).In-To, has (goal.at.returns-then-high-noise_at c).After-has_noise rested _ (c.if-not-has_noise.false), lt-ltb _ _ (rw (high_read (goal.at.returns-then-high-noise_at c).After-number_at-high, low (goal.at.returns-then-high-noise_at c).After-noise_at rested) at c.if-high-noise_at.true)))
+    ∙ sym (high-adding a.header a.s.now a.at (number_width a.code) a.place rested a.widened ∙ rw (takes p.In-To, some, lt-ltb _ _ below))
 
 pub returns-in-Refused : goal.returns-in-Refused
 returns-in-Refused c = λ rested.
@@ -63,7 +62,8 @@ returns-in-Refused c = λ rested.
 pub returns-else-high-noise_at : goal.returns-else-high-noise_at
 returns-else-high-noise_at c = λ rested.
     let a = c.args in
-    ap command.High (adding-tone a.header.size (number a.s.now (a.at + 1) (number_width a.code)) (a.at + 1) (takes_at a.place a.widened) _ (takes (goal.at.returns-else-high-noise_at c).In-To))
-    ∙ sym
-    (high-adding a.header a.s.now a.at (number_width a.code) a.place rested a.widened
-    ∙ rw (takes (goal.at.returns-else-high-noise_at c).In-To, has (goal.at.returns-else-high-noise_at c).After-has_noise rested _ (c.if-not-has_noise.false), le-ltb _ _ (rw (high_read (goal.at.returns-else-high-noise_at c).After-number_at-high, low (goal.at.returns-else-high-noise_at c).After-noise_at rested) at c.if-high-noise_at.false)))
+    let p = goal.at.returns-else-high-noise_at c in
+    let some = has p.After-has_noise rested _ (there p.In-To) c.if-not-has_noise.false in
+    let no-lower = rw (high_read p.After-number_at-high, low p.After-noise_at rested (there p.In-To)) at c.if-high-noise_at.false in
+    ap command.High (adding-tone a.header.size (number a.s.now (a.at + 1) (number_width a.code)) (a.at + 1) (takes_at a.place a.widened) _ (takes p.In-To))
+    ∙ sym (high-adding a.header a.s.now a.at (number_width a.code) a.place rested a.widened ∙ rw (takes p.In-To, some, le-ltb _ _ no-lower))

@@ -3,7 +3,6 @@ use mathlib.Core.Bool.{Bool}
 use mathlib.Core.Path.{◌≡◌, sym, ap, ◌∙◌}
 use Prim.Native.Nat.{ℕ, ◌+◌, ◌<◌}
 use native.Mathlib.Omega.{arith}
-use borrow.Author.Tests.{not-true, not-false}
 use Rattle.bigendian.specs.Number.{number}
 use Rattle.bigendian.proofs.Numbers.{number-there}
 use Rattle.gaps.specs.Gap.{parts}
@@ -16,8 +15,7 @@ use Rattle.rows.proofs.Judging.{rest-judged}
 use Rattle.addedrows.specs.Adding.{takes_at, adding_to}
 use Rattle.addedrows.specs.declared.Adding.TheVariants.{To}
 use Rattle.addedrows.proofs.Judged.{adding-tone, adding-taken, taken-there, rest-adding}
-use borrow.Author.Rules.{rules}
-use Rattle.addedrows.proofs.rest_command.Goals.{After-number_at-rest, After-takes_rest, In-To, Start}
+use Rattle.addedrows.proofs.rest_command.Goals.{After-number_at-rest, After-takes_rest, In-To}
 use Rattle.addedrows.proofs.rest_command.Goals as goal
 
 -- what the tone comes to, by the code's account of it
@@ -29,28 +27,31 @@ there : (c : In-To) → 0 < c.args.place
 there c = let a = c.args in taken-there a.place a.rested (adding-taken a.header.size (number a.s.now (a.at + 1) (number_width a.code)) (a.at + 1) (takes_at a.place a.rested) _ (takes c))
 
 pub takes_rest-requires : goal.takes_rest-requires
-takes_rest-requires c = rw c.parts.ensures (c.requires.s_len_bound.1 (there (goal.at.takes_rest-requires c).In-To))
+takes_rest-requires c = rw c.parts.ensures (c.requires.in_range (there (goal.at.takes_rest-requires c).In-To))
 
 -- the rest as the code has it
-abbrev value : Start → ℕ
-value c = number c.args.s.now (c.args.at + 1 + number_width c.args.code) 4
-
-rest_read : (c : After-number_at-rest) → c.number_at-rest.result ≡ value c
+rest_read : (c : After-number_at-rest) → let a = c.args in c.number_at-rest.result ≡ number a.s.now (a.at + 1 + number_width a.code) 4
 rest_read c = rw c.number_width.ensures.0 at c.number_at-rest.ensures.meaning ∙ number-there _ _ 4 (omega arith) (omega (arith, c.requires.code_in_bounds))
 
 -- what the operands come to is what the test of the rest decides
-judged : (c : After-takes_rest) (widened : ℕ) (b : Bool) → c.takes_rest.result ≡ b → let a = c.args in is_rest_of (parts a.header.gap) (entry_at a.s.now a.place a.rested widened) (value c) ≡ b
-judged c widened b e =
+judged : (c : After-takes_rest) (widened : ℕ) (b : Bool) → let a = c.args in
+    0 < a.place
+    → c.number_at-rest.result ≡ number a.s.now (a.at + 1 + number_width a.code) 4
+    → c.takes_rest.result ≡ b
+    → is_rest_of (parts a.header.gap) (entry_at a.s.now a.place a.rested widened) (number a.s.now (a.at + 1 + number_width a.code) 4) ≡ b
+judged c widened b l read e =
     let a = c.args in
-    rest-judged a.s.now a.place a.rested widened (parts a.header.gap) (value c) (there c)
-    ∙ sym (rw (c.parts.ensures, rest_read c) at c.takes_rest.ensures)
+    rest-judged a.s.now a.place a.rested widened (parts a.header.gap) (number a.s.now (a.at + 1 + number_width a.code) 4) l
+    ∙ sym (rw (c.parts.ensures, read) at c.takes_rest.ensures)
     ∙ e
 
 pub returns-then-not-takes_rest : goal.returns-then-not-takes_rest
 returns-then-not-takes_rest c = λ widened.
     let a = c.args in
+    let p = goal.at.returns-then-not-takes_rest c in
+    let is = judged p.After-takes_rest widened _ (there p.In-To) (rest_read p.After-number_at-rest) c.if-not-takes_rest.true in
     ap (λ (w : ℕ). command.Refused (RestOutOfRange (a.at + 1 + w))) c.number_width.ensures.0
-    ∙ sym (rest-adding a.header a.s.now a.at (number_width a.code) a.place a.rested widened ∙ rw (takes (goal.at.returns-then-not-takes_rest c).In-To, judged (goal.at.returns-then-not-takes_rest c).After-takes_rest widened _ (c.if-not-takes_rest.true)))
+    ∙ sym (rest-adding a.header a.s.now a.at (number_width a.code) a.place a.rested widened ∙ rw (takes p.In-To, is))
 
 pub returns-in-Refused : goal.returns-in-Refused
 returns-in-Refused c = λ widened.
@@ -60,5 +61,7 @@ returns-in-Refused c = λ widened.
 pub returns-else-not-takes_rest : goal.returns-else-not-takes_rest
 returns-else-not-takes_rest c = λ widened.
     let a = c.args in
-    ap command.Rest (adding-tone a.header.size (number a.s.now (a.at + 1) (number_width a.code)) (a.at + 1) (takes_at a.place a.rested) _ (takes (goal.at.returns-else-not-takes_rest c).In-To))
-    ∙ sym (rest-adding a.header a.s.now a.at (number_width a.code) a.place a.rested widened ∙ rw (takes (goal.at.returns-else-not-takes_rest c).In-To, judged (goal.at.returns-else-not-takes_rest c).After-takes_rest widened _ (c.if-not-takes_rest.false)))
+    let p = goal.at.returns-else-not-takes_rest c in
+    let is = judged p.After-takes_rest widened _ (there p.In-To) (rest_read p.After-number_at-rest) c.if-not-takes_rest.false in
+    ap command.Rest (adding-tone a.header.size (number a.s.now (a.at + 1) (number_width a.code)) (a.at + 1) (takes_at a.place a.rested) _ (takes p.In-To))
+    ∙ sym (rest-adding a.header a.s.now a.at (number_width a.code) a.place a.rested widened ∙ rw (takes p.In-To, is))

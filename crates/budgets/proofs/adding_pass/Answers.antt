@@ -3,12 +3,10 @@ use Prim.Native.Nat.{◌-◌}
 use native.Mathlib.Omega.{arith}
 use lib.ListN.{replicate, get_or-replicate}
 use Rattle.sizes.specs.Sizes.{most_tones}
-use Rattle.line.specs.Arrays.{arrays}
 use Rattle.line.proofs.Arrays.{stands-under}
 use Rattle.ranks.specs.Ranks.{no_step, NoneFrom}
 use Rattle.loadings.proofs.Runs.{none-stands, rests-high}
-use Rattle.budgets.proofs.Pass.{Passing, passing-starts, passing-length, passing-runs, moves-few, passing-next, passing-ends}
-use borrow.Author.Rules.{rules}
+use Rattle.budgets.proofs.Pass.{passing-starts, passing-length, passing-runs, moves-few, passing-next, passing-ends}
 use Rattle.budgets.proofs.adding_pass.Goals as goal
 
 pub no_bits-running-requires : goal.no_bits-running-requires
@@ -25,7 +23,12 @@ fill_ranks-requires c =
     let s = c in
     let L = s.requires.some_tones.loadable in
     let none : NoneFrom s.args.count (replicate most_tones no_step) = record { none_from = λ i h l. get_or-replicate most_tones i no_step 0 l } in
-    (L.in_range, (stands-under (none-stands L (c.no_bits-running.ensures _ _ _)).table, (none, none)))
+    record {
+      arrays_in_range = L.in_range;
+      under = stands-under (none-stands L (c.no_bits-running.ensures _ _ _)).table;
+      none_from = none;
+      none_from_2 = none;
+    }
 
 pub loop-k-init : goal.loop-k-init
 loop-k-init c = passing-starts c.requires (c.no_bits-running.ensures _ _ _) c.fill_ranks.ensures
@@ -57,10 +60,6 @@ loop-k-smaller c = omega arith
 pub loop-k-preserved : goal.loop-k-preserved
 loop-k-preserved c =
     passing-next c.loop-k.invariant c.loop-k-test.true c.budget_at-budget.ensures c.go_on-ended.ensures.run c.go_on-ended.ensures.ranks c.put_totals.ensures
-
--- NO GOAL same-length OF ['no-bits-running-requires', 'fill-ranks-requires', 'loop-k-init', 'budget-at-budget-requires', 'go-on-ended-requires', 'overflow-add-moves', 'overflow-mul-k', 'put-totals-requires', 'overflow-add-k', 'loop-k-smaller', 'loop-k-preserved', 'returns', 'no-bits-requires', 'loop-init', 'budget-at-requires', 'go-on-requires', 'add-moves', 'mul-put-totals', 'add-k', 'loop-smaller', 'loop-preserved']
-same_length : tie.Need-same-length invariant-loop decreases-loop
-same_length c = passing-length c.before.loop.invariant
 
 pub returns : goal.returns
 returns c = passing-ends c.loop-k.invariant (omega arith)

@@ -5,7 +5,6 @@ use Rattle.refusals.specs.Writing.{write_answer}
 use Rattle.budgetlist.proofs.Laws.{right-list, listed-right, listed-refused}
 use Rattle.sheet.proofs.Uses.{total-is}
 use Rattle.budgets.proofs.Outcomes.{list-refused, rests-refused, room-refused, totals-written}
-use borrow.Author.Rules.{rules}
 use Rattle.budgets.proofs.judge.Goals as goal
 
 pub budget_at-requires : goal.budget_at-requires

@@ -1,5 +1,5 @@
 -- `budgets::put_totals` meets its contract. Assumes nothing.
-use mathlib.Core.Path.{◌≡◌, sym, ap, ◌∙◌}
+use mathlib.Core.Path.{sym, ap, ◌∙◌}
 use Prim.Native.Nat.{◌+◌, ◌≤◌}
 use native.Mathlib.Omega.{arith}
 use lib.ListN.{length}
@@ -7,13 +7,12 @@ use lib.Seq.{sets, length-sets}
 use Rattle.bigendian.specs.Number.{bytes}
 use Rattle.bigendian.proofs.Numbers.{length-bytes, number_fits}
 use Rattle.lists.proofs.Stores.{sets-append}
-use borrow.Author.Rules.{rules}
 use Rattle.budgets.proofs.put_totals.Goals as goal
 
 pub returns : goal.returns
 returns c =
     let a = c.args in
-    let out = a.out-1.now in
+    let out = a.out.now in
     let first = number_fits out a.at 4 a.bits (omega arith) in
     let room : a.at + 4 + 8 ≤ length (sets out a.at (bytes 4 a.bits)) = omega (arith, length-sets out a.at (bytes 4 a.bits)) in
     c.put_number-2.ensures

@@ -1,23 +1,10 @@
 -- `command::decode` meets its contract. Assumes nothing.
-use mathlib.Core.Option.{some}
-use mathlib.Core.Path.{◌≡◌, sym, ◌∙◌}
-use Prim.Native.Nat.{ℕ}
-use borrow.Author.Rules.{rules}
-use borrow.Author.Tests.{le-leb, not-true, not-false}
+use mathlib.Core.Path.{sym, ◌∙◌}
+use borrow.Author.Tests.{le-leb}
 use lib.ListN.{get_or}
-use Rattle.rows.specs.Rows.{with_code}
-use Rattle.rows.specs.Codes.{row_of}
-use Rattle.command.specs.Format.{today, decoded}
+use Rattle.command.specs.Format.{decoded}
 use Rattle.command.proofs.Rows.{row-found, command-too-long, command-at, no_row, row-there}
-use Rattle.command.proofs.decode.Goals.{Else-not-is_allowed, Start}
 use Rattle.command.proofs.decode.Goals as goal
-
--- the command's byte, which finds its row where it is allowed
-abbrev code : Start → ℕ
-code c = get_or c.args.s.now c.args.at 0
-
-allowed : (c : Else-not-is_allowed) → let s = c in with_code (today.rows s.args.stage) (code s) ≡ some (row_of (code s))
-allowed c = row-found c.args.stage (code c) (sym c.is_allowed.ensures ∙ c.if-not-is_allowed.false)
 
 pub returns-then-length-gt-SHEET_BYTES : goal.returns-then-length-gt-SHEET_BYTES
 returns-then-length-gt-SHEET_BYTES c = sym (command-too-long _ _ _ _ _ c.if-length-gt-SHEET_BYTES.true)
@@ -34,5 +21,6 @@ returns-then-not-is_allowed c =
 
 pub returns : goal.returns
 returns c =
-    let short = c.if-length-gt-SHEET_BYTES.false in
-    rw c.row_at.ensures (sym (command-at _ _ _ _ _ short ∙ row-there _ _ _ _ _ c.if-length-at.false (allowed (goal.at.returns c).Else-not-is_allowed)))
+    let s = c.args.s.now in
+    let allowed = row-found c.args.stage (get_or s c.args.at 0) (sym c.is_allowed.ensures ∙ c.if-not-is_allowed.false) in
+    rw c.row_at.ensures (sym (command-at _ _ _ _ _ c.if-length-gt-SHEET_BYTES.false ∙ row-there _ _ _ _ _ c.if-length-at.false allowed))

@@ -1,20 +1,19 @@
 -- `command::line_operands` meets its contract. Assumes nothing.
 use mathlib.Core.Path.{◌≡◌}
 use native.Mathlib.Omega.{arith}
-use borrow.Author.Rules.{rules}
 use Rattle.rows.specs.Rows.{row_at}
 use Rattle.rows.proofs.Judging.{end_row}
 use Rattle.command.proofs.line_operands.Goals as goal
 
 pub silence_command-requires : goal.silence_command-requires
 silence_command-requires c = record {
-  silence_command_in_bounds = omega (arith, rw c.in-6.is at c.requires.fact_2.1.1.0);
+  silence_command_in_bounds = omega (arith, rw c.in-6.is at c.requires.code_in_bounds);
   s_len_bound = omega arith;
 }
 
 pub tenths_command-requires : goal.tenths_command-requires
 tenths_command-requires c = record {
-  tenths_command_in_bounds = omega (arith, rw c.in-8.is at c.requires.fact_2.1.1.0);
+  tenths_command_in_bounds = omega (arith, rw c.in-8.is at c.requires.code_in_bounds);
   s_len_bound = omega arith;
 }
 
@@ -31,7 +30,6 @@ returns-in_default c = λ known. let none : c.args.code ≡ 0 = omega arith in r
 pub returns-in_default-2 : goal.returns-in_default-2
 unfolding row_at
 returns-in_default-2 c = λ known.
-    let k = c in
-    let high = c.if-code-lt4.false in
-    let other = c.in_default-1.rest in
-    rw (end_row k.args.code k.requires.fact k.requires.fact_2.0 k.requires.fact_2.1.0 (λ e. omega (arith, high)) (λ e. omega (arith, high)) (λ e. omega (arith, high)) other.0.1 other.1)
+    let code = c.args.code in
+    let r = c.requires in
+    rw (end_row code r.no_tone r.no_rest r.no_high (λ e. omega arith) (λ e. omega arith) (λ e. omega arith) (λ e. omega arith) (λ e. omega arith))

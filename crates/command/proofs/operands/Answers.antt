@@ -4,12 +4,11 @@ use mathlib.Core.Path.{◌≡◌, sym, ap, ◌∙◌}
 use Prim.Native.Nat.{ℕ, ◌+◌, ◌≤◌, ◌<◌}
 use native.Mathlib.Decide.{ℕ_discrete}
 use native.Mathlib.Omega.{arith}
-use borrow.Author.Rules.{rules}
 use Rattle.places.proofs.Entries.{entry-there}
 use Rattle.rows.specs.Rows.{width, row_at}
 use Rattle.rows.specs.Codes.{ShortToneCode, ToneCode, RestCode, HighCode}
 use Rattle.rows.proofs.Judging.{tone-row, rest-row, high-row}
-use Rattle.command.proofs.operands.Goals.{In-11, In-12, In-4-1, In_default}
+use Rattle.command.proofs.operands.Goals.{In-11, In-12, In-4-1, In_default, else-short-lt6+else-short-lt9+then-short-lt11, in_default-via-else-short-lt4+else-short-lt6+else-short-lt9+else-short-lt11, in_default-via-else-short-lt4+else-short-lt6+then-short-lt9, in_default-via-then-short-lt4, then-short-lt6}
 use Rattle.command.proofs.operands.Goals as goal
 
 -- a number or the one after it
@@ -22,8 +21,8 @@ one_of_two short k l h = by (ℕ_discrete short k)
 
 tone-code : (c : In-4-1) → ToneCode c.args.code
 tone-code c = rw (sym c.short_of-short.ensures) (elim c.in-4-1.branch [
-  | inl t ↦ inl (one_of_two c.short_of-short.result 4 c.in_default.false t.taken)
-  | inr t ↦ inr (one_of_two c.short_of-short.result 9 t.1.left t.2.taken)
+  | then-short-lt6 w ↦ inl (one_of_two c.short_of-short.result 4 (omega arith) (omega arith))
+  | else-short-lt6+else-short-lt9+then-short-lt11 w ↦ inr (one_of_two c.short_of-short.result 9 (omega arith) (omega arith))
 ])
 
 -- a short byte of a tone's command is 4 or 5, or 9 or 10
@@ -41,22 +40,25 @@ no-tone c t = by (within short (rw (sym c.short_of-short.ensures) at t))
 
     by : ((4 ≤ short) × (short < 6)) ⊎ ((9 ≤ short) × (short < 11)) → ⊥
     by (inl h) = elim c.in_default.branch [
-      | inl k ↦ omega (arith, h, k.taken)
-      | inr (inl k) ↦ omega (arith, h, k.1.left)
-      | inr (inr k) ↦ omega (arith, h, k.1.left)
+      | in_default-via-then-short-lt4 w ↦ omega arith
+      | in_default-via-else-short-lt4+else-short-lt6+then-short-lt9 w ↦ omega arith
+      | in_default-via-else-short-lt4+else-short-lt6+else-short-lt9+else-short-lt11 w ↦ omega arith
     ]
     by (inr h) = elim c.in_default.branch [
-      | inl k ↦ omega (arith, h, k.taken)
-      | inr (inl k) ↦ omega (arith, h, k.2.taken)
-      | inr (inr k) ↦ omega (arith, h, k.3.left)
+      | in_default-via-then-short-lt4 w ↦ omega arith
+      | in_default-via-else-short-lt4+else-short-lt6+then-short-lt9 w ↦ omega arith
+      | in_default-via-else-short-lt4+else-short-lt6+else-short-lt9+else-short-lt11 w ↦ omega arith
     ]
 
 rest-code : (c : In-11) → RestCode c.args.code
 rest-code c = sym c.short_of-short.ensures ∙ c.in-11.is
 
 pub rest_command-requires : goal.rest_command-requires
-rest_command-requires c =
-    (omega (arith, ap (λ r. width r.operands) (rest-row c.args.code (rest-code (goal.at.rest_command-requires c).In-11)), c.requires.code_in_bounds), (omega arith, λ l. (rw (entry-there c.args.s.now c.args.rested c.args.widened c.args.place l) at c.requires.s_len_bound.1).0))
+rest_command-requires c = record {
+  code_in_bounds = omega (arith, ap (λ r. width r.operands) (rest-row c.args.code (rest-code (goal.at.rest_command-requires c).In-11)), c.requires.code_in_bounds);
+  s_len_bound = omega arith;
+  in_range = λ l. (rw (entry-there c.args.s.now c.args.rested c.args.widened c.args.place l) at c.requires.entry_in_range).0;
+}
 
 high-code : (c : In-12) → HighCode c.args.code
 high-code c = sym c.short_of-short.ensures ∙ c.in-12.is
@@ -84,7 +86,13 @@ pub returns-in-4 : goal.returns-in-4
 returns-in-4 c = c.tone_command.ensures _ _ ∙ ap (row_at _ _ _ _) (tone-row c.args.code (tone-code (goal.at.returns-in-4 c).In-4-1))
 
 pub line_operands-requires : goal.line_operands-requires
-line_operands-requires c = (no-tone (goal.at.line_operands-requires c).In_default, (λ e. c.in_default-1.rest.0.1 (c.short_of-short.ensures ∙ e), (λ e. c.in_default-1.rest.1 (c.short_of-short.ensures ∙ e), (omega (arith, c.requires.code_in_bounds), omega arith))))
+line_operands-requires c = record {
+  no_tone = no-tone (goal.at.line_operands-requires c).In_default;
+  no_rest = λ e. let short : c.short_of-short.result ≡ 11 = c.short_of-short.ensures ∙ e in omega arith;
+  no_high = λ e. let short : c.short_of-short.result ≡ 12 = c.short_of-short.ensures ∙ e in omega arith;
+  code_in_bounds = omega (arith, c.requires.code_in_bounds);
+  s_len_bound = omega arith;
+}
 
 pub returns-in_default : goal.returns-in_default
 returns-in_default c = c.line_operands.ensures _

@@ -1,7 +1,6 @@
 -- `command::row_at` meets its contract. Assumes nothing.
 use mathlib.Core.Path.{sym}
 use native.Mathlib.Omega.{arith}
-use borrow.Author.Rules.{rules}
 use Rattle.command.proofs.Rows.{row_cut, row-whole}
 use Rattle.command.proofs.row_at.Goals as goal
 
@@ -11,7 +10,11 @@ returns-then-ends-at c =
     sym (row_cut _ _ a.s.now a.at a.code c.bytes_of-bytes.ensures.0 (omega (arith, c.if-ends-at.true)))
 
 pub operands-requires : goal.operands-requires
-operands-requires c = (omega (arith, c.if-ends-at.false, c.bytes_of-bytes.ensures.0, c.requires.at_in_bounds), (omega arith, c.requires.s_len_bound.1))
+operands-requires c = record {
+  code_in_bounds = omega (arith, c.if-ends-at.false, c.bytes_of-bytes.ensures.0, c.requires.at_in_bounds);
+  s_len_bound = omega arith;
+  entry_in_range = c.requires.entry_in_range;
+}
 
 pub returns : goal.returns
 returns c =

@@ -1,12 +1,10 @@
 -- `guarded::raise` meets its contract. Assumes nothing.
-use Prim.Native.Nat.{◌-◌}
 use native.Mathlib.Omega.{arith}
-use Rattle.guarded.proofs.Raising.{RaisingOf, raises-from, small, high-in-range, raised-next, raised-line}
-use borrow.Author.Rules.{rules}
+use Rattle.guarded.proofs.Raising.{raises-from, small, high-in-range, raised-next, raised-line}
 use Rattle.guarded.proofs.raise.Goals as goal
 
 pub loop-i-init : goal.loop-i-init
-loop-i-init c = raises-from (λ i. (c.shared_slice_known-1.given i).fits) c.requires.indexed_high c.requires.limits_of
+loop-i-init c = raises-from (λ i. (c.type_inv.s i).fits) c.requires.indexed_high c.requires.limits_of
 
 pub overflow_cast-tone : goal.overflow_cast-tone
 overflow_cast-tone c = omega (arith, small c.loop-i.invariant c.loop-i-test.true)

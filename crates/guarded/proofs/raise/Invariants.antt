@@ -1,8 +1,6 @@
 -- `guarded::raise` meets its contract. Assumes nothing.
 use Prim.Native.Nat.{◌-◌}
-use native.Mathlib.Omega.{arith}
-use Rattle.guarded.proofs.Raising.{RaisingOf, raises-from, small, high-in-range, raised-next, raised-line}
-use borrow.Author.Rules.{rules}
+use Rattle.guarded.proofs.Raising.{RaisingOf}
 use Rattle.guarded.proofs.raise.Given as goal
 
 abbrev pub invariant-loop-i : goal.invariant-loop-i

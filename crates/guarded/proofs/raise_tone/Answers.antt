@@ -1,7 +1,6 @@
 -- `guarded::raise_tone` meets its contract. Assumes nothing.
 use native.Mathlib.Omega.{arith}
 use borrow.Author.Tests.{le-ltb, lt-ltb}
-use borrow.Author.Rules.{rules}
 use Rattle.guarded.proofs.raise_tone.Goals as goal
 
 pub returns-then-high-lt1 : goal.returns-then-high-lt1

@@ -1,15 +1,12 @@
 -- `limits::put_limits` meets its contract. Between the turns the limits of the tones below i are written. Assumes nothing.
-use Prim.Native.Nat.{◌-◌}
 use native.Mathlib.Omega.{arith}
-use borrow.Author.Rules.{rules}
 use Rattle.arrays.proofs.Indexed.{size_high, tone-in-range}
-use Rattle.limits.proofs.Bytes.{WritingOf, writing-starts, written-limit, written-limits}
+use Rattle.limits.proofs.Bytes.{writing-starts, written-limit, written-limits}
 use Rattle.limits.proofs.put_limits.Goals as goal
 
 pub loop-i-init : goal.loop-i-init
 loop-i-init c =
-    let s = c in
-    writing-starts (λ i. (c.shared_slice_known-1.given i).fits) s.requires.indexed_low s.args.out.now
+    writing-starts (λ i. (c.type_inv.s i).fits) c.requires.indexed_low c.args.out.now
 
 pub overflow_cast-tone : goal.overflow_cast-tone
 overflow_cast-tone c = omega (arith, size_high c.loop-i.invariant.index)
@@ -47,10 +44,6 @@ loop-i-smaller c = omega (arith, c.loop-i-test.true)
 pub loop-i-preserved : goal.loop-i-preserved
 loop-i-preserved c =
     written-limit c.loop-i.invariant c.loop-i-test.true _ c.is_silenced-silenced.ensures _ (rw c.parts-parts.ensures at c.steps_at-steps.ensures) c.put_limit.ensures
-
--- NO GOAL same-length OF ['parts-parts-requires', 'loop-i-init', 'overflow-cast-header', 'overflow-cast-tone', 'is-silenced-silenced-requires', 'offset-bounds-places-i', 'bounds-places-i', 'offset-bounds-rests-i', 'bounds-rests-i', 'steps-at-steps-requires', 'overflow-mul-i', 'put-limit-requires', 'overflow-add-i', 'loop-i-smaller', 'loop-i-preserved', 'returns', 'parts-requires', 'loop-init', 'cast-if1', 'cast-tone', 'is-silenced-requires', 'mul-steps-at', 'element-copy-out-steps-at', 'mul-steps-at-2', 'element-copy-out-steps-at-2', 'steps-at-requires', 'mul-put-limit', 'add-i', 'loop-smaller', 'loop-preserved']
-same_length : tie.Need-same-length invariant-loop decreases-loop
-same_length c = c.before.before.loop.invariant.entries.same_length
 
 pub returns : goal.returns
 returns c = written-limits c.loop-i.invariant c.loop-i-test.false

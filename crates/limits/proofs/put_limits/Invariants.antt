@@ -1,9 +1,6 @@
 -- `limits::put_limits` meets its contract. Between the turns the limits of the tones below i are written. Assumes nothing.
 use Prim.Native.Nat.{◌-◌}
-use native.Mathlib.Omega.{arith}
-use borrow.Author.Rules.{rules}
-use Rattle.arrays.proofs.Indexed.{size_high, tone-in-range}
-use Rattle.limits.proofs.Bytes.{WritingOf, writing-starts, written-limit, written-limits}
+use Rattle.limits.proofs.Bytes.{WritingOf}
 use Rattle.limits.proofs.put_limits.Given as goal
 
 abbrev pub invariant-loop-i : goal.invariant-loop-i

@@ -1,6 +1,5 @@
 -- `line::bounds_of` meets its contract. Assumes nothing.
 use mathlib.Core.Path.{sym, ap}
-use borrow.Author.Rules.{rules}
 use Rattle.line.specs.Tone.{kind_bounds}
 use Rattle.line.proofs.bounds_of.Goals as goal
 

@@ -1,6 +1,5 @@
 -- `line::cost` meets its contract. Assumes nothing.
 use mathlib.Core.Path.{sym, ap, ◌∙◌}
-use borrow.Author.Rules.{rules}
 use Rattle.line.specs.Tone.{kind_cost}
 use Rattle.line.proofs.Costs.{reading-granted}
 use Rattle.line.proofs.cost.Goals as goal
@@ -37,7 +36,7 @@ unfolding kind_cost
 returns-in-Read c =
     let kind = c.in-Read.is in
     let pre = c.requires in
-    let same = c.cost_of.ensures ∙ reading-granted _ _ (rw kind at pre.kind-1) (rw kind at pre.cost) ∙ sym (ap (kind_cost _) kind) in
+    let same = c.cost_of.ensures ∙ reading-granted _ _ (rw kind at pre.kind) (rw kind at pre.cost) ∙ sym (ap (kind_cost _) kind) in
     record {
       meaning = same;
       range = rw same pre.cost;

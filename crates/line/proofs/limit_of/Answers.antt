@@ -1,11 +1,9 @@
 -- `line::limit_of` meets its contract. Assumes nothing.
 use mathlib.Core.Path.{◌≡◌, refl}
-use Prim.Native.Nat.{◌+◌, ◌-◌, ◌*◌, ◌^◌, ◌%◌}
+use Prim.Native.Nat.{◌-◌, ◌*◌}
 use native.Mathlib.Omega.{arith}
-use borrow.Author.Rules.{rules}
-use Rattle.line.specs.Arrays.{power_of}
-use Rattle.line.proofs.Tries.{Searched, Between, shift-at-most-2, one_more, next, next_fits, mask-ends, cap-ends}
-use Rattle.line.proofs.limit_of.Goals.{After-doublings-shift, In-loop-bits}
+use Rattle.line.proofs.Tries.{Searched, shift-at-most-2, one_more, next, next_fits, mask-ends, cap-ends}
+use Rattle.line.proofs.limit_of.Goals.{After-doublings-shift}
 use Rattle.line.proofs.limit_of.Goals as goal
 
 searched : (c : After-doublings-shift)
@@ -36,14 +34,6 @@ overflow_add-power c =
     let a = c in
     record { fits = next_fits (searched (goal.at.overflow_add-power c).After-doublings-shift) a.loop-bits.invariant a.power_of-first.ensures }
 
--- what the turn tries
-power-tried : (c : In-loop-bits) → (let a = c in
-    a.loop-bits.power * 2 ^ a.doublings-shift.result % 2 ^ 64 + a.power_of-first.result
-    ≡ power_of a.args.cost a.doublings-shift.result (a.loop-bits.bits + 1))
-power-tried c =
-    let a = c in
-    next (searched a) a.loop-bits.invariant a.power_of-first.ensures
-
 pub overflow_add-tries : goal.overflow_add-tries
 overflow_add-tries c =
     let a = c in
@@ -51,8 +41,10 @@ overflow_add-tries c =
 
 pub returns-then-bounds-power : goal.returns-then-bounds-power
 returns-then-bounds-power c =
-    let a = c in
-    mask-ends (searched (goal.at.returns-then-bounds-power c).After-doublings-shift) a.loop-bits.invariant (omega (arith, a.loop-bits-test.true)) (omega (arith, c.if-bounds-power.true, power-tried (goal.at.returns-then-bounds-power c).In-loop-bits))
+    let S = searched (goal.at.returns-then-bounds-power c).After-doublings-shift in
+    let tried = next S c.loop-bits.invariant c.power_of-first.ensures in
+    let ends = mask-ends S c.loop-bits.invariant (omega arith) (omega arith) in
+    record { limit = ends.0; tries = ends.1 }
 
 pub overflow_add-bits : goal.overflow_add-bits
 overflow_add-bits c =
@@ -64,15 +56,14 @@ loop-bits-smaller c = omega (arith, c.loop-bits-test.true)
 
 pub loop-bits-preserved : goal.loop-bits-preserved
 loop-bits-preserved c =
-    let a = c in
     record {
-      at_most = omega (arith, a.loop-bits-test.true);
-      power_is = power-tried (goal.at.loop-bits-preserved c).In-loop-bits;
-      under = omega (arith, c.if-bounds-power.false);
-      counted = omega (arith, a.loop-bits.invariant.counted);
+      at_most = omega arith;
+      power_is = next (searched (goal.at.loop-bits-preserved c).After-doublings-shift) c.loop-bits.invariant c.power_of-first.ensures;
+      under = omega arith;
+      counted = omega (arith, c.loop-bits.invariant.counted);
     }
 
 pub returns : goal.returns
 returns c =
-    let a = c in
-    cap-ends (searched (goal.at.returns c).After-doublings-shift) a.loop-bits.invariant (omega (arith, c.loop-bits-test.false))
+    let ends = cap-ends (searched (goal.at.returns c).After-doublings-shift) c.loop-bits.invariant (omega arith) in
+    record { limit = ends.0; tries = ends.1 }

@@ -2,7 +2,6 @@
 use Prim.Native.Nat.{◌*◌, ◌^◌, ◌≤◌}
 use native.Mathlib.Nat.{mul-le-mul}
 use native.Mathlib.Omega.{arith}
-use borrow.Author.Rules.{rules}
 use borrow.Author.Tests.{lt-ltb, le-ltb}
 use Rattle.line.proofs.Costs.{product_high, below_cost, above-cost}
 use Rattle.line.proofs.numbers_take.Goals as goal

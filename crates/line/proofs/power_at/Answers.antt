@@ -1,7 +1,6 @@
 -- `line::power_at` meets its contract. Assumes nothing.
-use mathlib.Core.Path.{◌≡◌, refl, sym, ◌∙◌}
+use mathlib.Core.Path.{sym, ◌∙◌}
 use native.Mathlib.Omega.{arith}
-use borrow.Author.Rules.{rules}
 use Rattle.line.proofs.Powers.{power-none, power-some}
 use Rattle.line.proofs.power_at.Goals as goal
 

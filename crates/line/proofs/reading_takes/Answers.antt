@@ -1,6 +1,5 @@
 -- `line::reading_takes` meets its contract. Assumes nothing.
 use mathlib.Core.Path.{sym}
-use borrow.Author.Rules.{rules}
 use borrow.Author.Tests.{lt-ltb, le-ltb}
 use Rattle.line.proofs.reading_takes.Goals as goal
 

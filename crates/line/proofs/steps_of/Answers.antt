@@ -1,5 +1,4 @@
 -- `line::steps_of` meets its contract. Assumes nothing.
-use borrow.Author.Rules.{rules}
 use Rattle.line.proofs.steps_of.Goals as goal
 
 pub returns : goal.returns

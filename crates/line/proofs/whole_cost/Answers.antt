@@ -1,7 +1,6 @@
 -- `line::whole_cost` meets its contract: the ceiling is at most the largest cost, which fits 32 bits. Assumes nothing.
 use mathlib.Core.Path.{refl}
 use native.Mathlib.Omega.{arith}
-use borrow.Author.Rules.{rules}
 use Rattle.line.specs.Tone.{whole_cost}
 use Rattle.line.proofs.Costs.{product_high, whole-high}
 use Rattle.line.proofs.whole_cost.Goals as goal

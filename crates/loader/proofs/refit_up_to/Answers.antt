@@ -3,23 +3,18 @@ use Rattle.loadings.specs.Refits.{refit_up_to, RefitsAs}
 use Rattle.loadings.proofs.Outcomes.{refit-refused}
 use Rattle.loader.specs.Calls.{refit_by}
 use Rattle.loader.proofs.Outcomes.{held, refusal_is, some_tones, on-held, not-loaded}
-use borrow.Author.Rules.{rules}
 use Rattle.loader.proofs.refit_up_to.Goals as goal
 
 pub refit-requires : goal.refit-requires
-refit-requires c =
-    let k = c in
-    some_tones k.args.s.now (held k.read_tones-read.ensures k.in-Accepted.is)
+refit-requires c = some_tones c.args.s.now (held c.read_tones-read.ensures c.in-Accepted.is)
 
 pub returns-in-Refused : goal.returns-in-Refused
 unfolding refit_by
 returns-in-Refused c =
-    let t = c in
-    let a = t.args in
-    refit-refused (refit_by a.most a.s.now a.start.now) _ (not-loaded (refusal_is t.read_tones-read.ensures c.in-Refused.is) _)
+    let a = c.args in
+    refit-refused (refit_by a.most a.s.now a.start.now) _ (not-loaded (refusal_is c.read_tones-read.ensures c.in-Refused.is) _)
 
 pub returns-in-Accepted : goal.returns-in-Accepted
 unfolding refit_by
 returns-in-Accepted c =
-    let k = c in
-    on-held k.args.s.now (held k.read_tones-read.ensures k.in-Accepted.is) (RefitsAs _ _ _) (λ T budget. refit_up_to _ T budget _) c.refit.ensures
+    on-held c.args.s.now (held c.read_tones-read.ensures c.in-Accepted.is) (RefitsAs _ _ _) (λ T budget. refit_up_to _ T budget _) c.refit.ensures

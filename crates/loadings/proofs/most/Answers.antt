@@ -4,7 +4,6 @@ use Rattle.line.specs.Arrays.{Arrays, arrays}
 use Rattle.loadings.specs.Loads.{most_on}
 use Rattle.loadings.proofs.Runs.{runnable, none-stands, rests-high, writable, most-stands}
 use Rattle.loadings.proofs.Outcomes.{load-refused, load-done, most-short, most-fits}
-use borrow.Author.Rules.{rules}
 use Rattle.loadings.proofs.most.Goals as goal
 
 pub returns-then-table-count : goal.returns-then-table-count
@@ -25,20 +24,17 @@ run-ended-requires c =
 
 pub put_table-requires : goal.put_table-requires
 put_table-requires c =
-    let e = c in
-    let L = e.requires.loadable in
-    (L.in_range.count_high, (writable L (e.run-ended.ensures _ _ (none-stands L (e.no_bits-start.ensures _ _ _))).stands, e.if-table-count.false))
+    let L = c.requires.loadable in
+    record { count_le_most_tones = L.in_range.count_high; powers_in_range = writable L (c.run-ended.ensures _ _ (none-stands L (c.no_bits-start.ensures _ _ _))).stands; count_in_bounds = c.if-table-count.false }
 
 pub returns : goal.returns
 returns c = λ T L.
-    let e = c in
-    let k = e in
-    let h = e.if-table-count.false in
-    let A : Arrays = arrays k.args.limits.now k.args.costs.now k.args.doublings.now k.args.rests.now in
+    let h = c.if-table-count.false in
+    let A : Arrays = arrays c.args.limits.now c.args.costs.now c.args.doublings.now c.args.rests.now in
     load-done {A = A}
     (record {
-      stands = most-stands L (e.run-ended.ensures T (no_bits T) (none-stands L (e.no_bits-start.ensures _ _ _))).stands;
+      stands = most-stands L (c.run-ended.ensures T (no_bits T) (none-stands L (c.no_bits-start.ensures _ _ _))).stands;
       room = h;
-      written = c.put_table.ensures k.args.limits.now;
+      written = c.put_table.ensures c.args.limits.now;
     })
-    (most_on T k.args.budget) (most-fits L h)
+    (most_on T c.args.budget) (most-fits L h)

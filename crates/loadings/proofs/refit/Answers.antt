@@ -6,7 +6,6 @@ use Rattle.loadings.specs.Refits.{refit_up_to}
 use Rattle.loadings.proofs.Runs.{runnable, writable}
 use Rattle.loadings.proofs.Starting.{found-above, first-tone, none_above, start-in-range, start-stands}
 use Rattle.loadings.proofs.Outcomes.{refit-refused, refit-done, refit-short, refit-length, refit-above, refit-fits}
-use borrow.Author.Rules.{rules}
 use Rattle.loadings.proofs.refit.Goals as goal
 
 pub returns-then-table-count : goal.returns-then-table-count
@@ -17,58 +16,46 @@ returns-then-start-count c = λ T L. refit-refused (refit_up_to _ T _ _) _ (refi
 
 pub overflow_cast-result : goal.overflow_cast-result
 overflow_cast-result c =
-    let f = c in
-    let L = f.requires.loadable in
-    record { fits = omega (arith, first-tone L _ f.if-start-count.false _ f.first_above-above.ensures c.in-Tone.is, L.in_range.count_high) }
+    let L = c.requires.loadable in
+    record { fits = omega (arith, first-tone L _ c.if-start-count.false _ c.first_above-above.ensures c.in-Tone.is, L.in_range.count_high) }
 
 pub from_start-from-requires : goal.from_start-from-requires
 from_start-from-requires c =
-    let f = c in
-    let L = f.requires.loadable in
+    let L = c.requires.loadable in
     record {
-      start_len_bound = omega (arith, f.if-start-count.false, L.in_range.count_high);
-      powers_in_range = start-in-range L _ f.if-start-count.false _ f.first_above-above.ensures c.in-Nowhere.is;
+      start_len_bound = omega (arith, c.if-start-count.false, L.in_range.count_high);
+      powers_in_range = start-in-range L _ c.if-start-count.false _ c.first_above-above.ensures c.in-Nowhere.is;
     }
 
 pub run-ended-requires : goal.run-ended-requires
 run-ended-requires c =
-    let f = c in
-    let k = f in
-    let L = k.requires.loadable in
-    runnable L (start-stands L _ f.if-start-count.false _ f.first_above-above.ensures c.in-Nowhere.is (c.from_start-from.ensures k.args.limits.now))
+    let L = c.requires.loadable in
+    runnable L (start-stands L _ c.if-start-count.false _ c.first_above-above.ensures c.in-Nowhere.is (c.from_start-from.ensures c.args.limits.now))
 
 pub put_table-requires : goal.put_table-requires
 put_table-requires c =
-    let e = c in
-    let f = e in
-    let k = f in
-    let L = k.requires.loadable in
-    let S = start-stands L _ f.if-start-count.false _ f.first_above-above.ensures e.in-Nowhere.is (e.from_start-from.ensures k.args.limits.now) in
-    (L.in_range.count_high, (writable L (e.run-ended.ensures _ _ S).stands, f.if-table-count.false))
+    let L = c.requires.loadable in
+    let S = start-stands L _ c.if-start-count.false _ c.first_above-above.ensures c.in-Nowhere.is (c.from_start-from.ensures c.args.limits.now) in
+    record { count_le_most_tones = L.in_range.count_high; powers_in_range = writable L (c.run-ended.ensures _ _ S).stands; count_in_bounds = c.if-table-count.false }
 
 pub returns-in-Tone : goal.returns-in-Tone
 returns-in-Tone c = λ T L.
-    let f = c in
-    let k = f in
-    refit-refused (refit_up_to k.args.most T k.args.budget k.args.start.now) _
-    (refit-above L _ _ f.if-table-count.false f.if-start-count.false (found-above L _ f.if-start-count.false _ f.first_above-above.ensures c.in-Tone.is))
+    refit-refused (refit_up_to c.args.most T c.args.budget c.args.start.now) _
+    (refit-above L _ _ c.if-table-count.false c.if-start-count.false (found-above L _ c.if-start-count.false _ c.first_above-above.ensures c.in-Tone.is))
 
 pub returns-in-Nowhere : goal.returns-in-Nowhere
 returns-in-Nowhere c = λ T L.
-    let e = c in
-    let f = e in
-    let k = f in
-    let m = f.if-start-count.false in
-    let h = f.if-table-count.false in
-    let A : Arrays = arrays k.args.limits.now k.args.costs.now k.args.doublings.now k.args.rests.now in
-    let S = start-stands {A = A} L _ m _ f.first_above-above.ensures e.in-Nowhere.is (e.from_start-from.ensures k.args.limits.now) in
-    let E = e.run-ended.ensures T k.args.start.now S in
-    refit-done {A = A} {ran = run (refit_step T k.args.budget) k.args.most k.args.start.now}
+    let m = c.if-start-count.false in
+    let h = c.if-table-count.false in
+    let A : Arrays = arrays c.args.limits.now c.args.costs.now c.args.doublings.now c.args.rests.now in
+    let S = start-stands {A = A} L _ m _ c.first_above-above.ensures c.in-Nowhere.is (c.from_start-from.ensures c.args.limits.now) in
+    let E = c.run-ended.ensures T c.args.start.now S in
+    refit-done {A = A} {ran = run (refit_step T c.args.budget) c.args.most c.args.start.now}
     (record {
       stands = E.stands;
       room = h;
-      written = c.put_table.ensures k.args.limits.now;
+      written = c.put_table.ensures c.args.limits.now;
     })
-    (refit_up_to k.args.most T k.args.budget k.args.start.now)
-    (refit-fits {A = A} L _ _ h m (none_above {A = A} L _ m _ f.first_above-above.ensures e.in-Nowhere.is))
+    (refit_up_to c.args.most T c.args.budget c.args.start.now)
+    (refit-fits {A = A} L _ _ h m (none_above {A = A} L _ m _ c.first_above-above.ensures c.in-Nowhere.is))
     E.counted

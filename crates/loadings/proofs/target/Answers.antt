@@ -5,7 +5,6 @@ use Rattle.line.specs.Arrays.{Arrays, arrays}
 use Rattle.loadings.specs.Loads.{target_on}
 use Rattle.loadings.proofs.Runs.{runnable, none-stands, rests-high, writable, carried-by, missed_by}
 use Rattle.loadings.proofs.Outcomes.{load-refused, load-done, target-short, target-missed, target-carried}
-use borrow.Author.Rules.{rules}
 use Rattle.loadings.proofs.target.Goals as goal
 
 pub returns-then-table-count : goal.returns-then-table-count
@@ -26,30 +25,25 @@ run-ended-requires c =
 
 pub put_table-requires : goal.put_table-requires
 put_table-requires c =
-    let e = c in
-    let L = e.requires.loadable in
-    (L.in_range.count_high, (writable L (e.run-ended.ensures _ _ (none-stands L (e.no_bits-start.ensures _ _ _))).stands, e.if-table-count.false))
+    let L = c.requires.loadable in
+    record { count_le_most_tones = L.in_range.count_high; powers_in_range = writable L (c.run-ended.ensures _ _ (none-stands L (c.no_bits-start.ensures _ _ _))).stands; count_in_bounds = c.if-table-count.false }
 
 pub returns-in-Finished : goal.returns-in-Finished
 returns-in-Finished c = λ T L.
-    let e = c in
-    let k = e in
-    let E = e.run-ended.ensures T (no_bits T) (none-stands L (e.no_bits-start.ensures _ _ _)) in
-    load-refused (target_on T k.args.budget k.args.target) _
-    (target-missed L _ e.if-table-count.false refl (missed_by L k.args.target E.progressed c.in-Finished.is))
+    let E = c.run-ended.ensures T (no_bits T) (none-stands L (c.no_bits-start.ensures _ _ _)) in
+    load-refused (target_on T c.args.budget c.args.target) _
+    (target-missed L _ c.if-table-count.false refl (missed_by L c.args.target E.progressed c.in-Finished.is))
 
 pub returns-in-Moved : goal.returns-in-Moved
 returns-in-Moved c = λ T L.
-    let e = c in
-    let k = e in
-    let h = e.if-table-count.false in
-    let A : Arrays = arrays k.args.limits.now k.args.costs.now k.args.doublings.now k.args.rests.now in
-    let E = e.run-ended.ensures T (no_bits T) (none-stands L (e.no_bits-start.ensures _ _ _)) in
-    let all = carried-by L k.args.target E.progressed c.in-Moved.is in
+    let h = c.if-table-count.false in
+    let A : Arrays = arrays c.args.limits.now c.args.costs.now c.args.doublings.now c.args.rests.now in
+    let E = c.run-ended.ensures T (no_bits T) (none-stands L (c.no_bits-start.ensures _ _ _)) in
+    let all = carried-by L c.args.target E.progressed c.in-Moved.is in
     load-done {A = A}
     (record {
       stands = E.stands;
       room = h;
-      written = c.put_table.ensures k.args.limits.now;
+      written = c.put_table.ensures c.args.limits.now;
     })
-    (target_on T k.args.budget k.args.target) (target-carried L _ h refl all)
+    (target_on T c.args.budget c.args.target) (target-carried L _ h refl all)

@@ -1,6 +1,5 @@
 -- `noises::high_at` meets its contract. Assumes nothing.
 use mathlib.Core.Path.{◌∙◌}
-use borrow.Author.Rules.{rules}
 use Rattle.noises.proofs.high_at.Goals as goal
 
 pub returns : goal.returns

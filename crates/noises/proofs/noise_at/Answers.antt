@@ -1,7 +1,5 @@
 -- `noises::noise_at` meets its contract. Assumes nothing.
 use mathlib.Core.Path.{sym, ◌∙◌}
-use borrow.Author.Rules.{rules}
-use borrow.Author.Tests.{not-true, not-false}
 use Rattle.places.specs.Places.{tone_at}
 use Rattle.noises.proofs.Places.{no-noise, noise-there}
 use Rattle.noises.proofs.noise_at.Goals as goal

@@ -1,6 +1,5 @@
 -- `noises::with_noise` meets its contract. Assumes nothing.
 use mathlib.Core.Path.{sym, ap, ◌∙◌}
-use borrow.Author.Rules.{rules}
 use Rattle.line.specs.declared.Kind.{Kind}
 use Rattle.line.specs.declared.Kind.TheVariants.{Pair, Single}
 use Rattle.line.specs.declared.Tone.{Tone}

@@ -1,5 +1,4 @@
 -- `places::numbers_at` meets its contract. Assumes nothing.
-use borrow.Author.Rules.{rules}
 use Rattle.places.proofs.numbers_at.Goals as goal
 
 pub returns : goal.returns

@@ -1,7 +1,6 @@
 -- `places::rest_at` meets its contract. Assumes nothing.
 use mathlib.Core.Path.{sym, ◌∙◌}
 use native.Mathlib.Omega.{arith}
-use borrow.Author.Rules.{rules}
 use Rattle.places.proofs.Entries.{no_rest, rest-there}
 use Rattle.places.proofs.rest_at.Goals as goal
 

@@ -1,7 +1,7 @@
 -- `places::tone_at` meets its contract. Assumes nothing.
-use borrow.Author.Rules.{rules}
 use borrow.Author.Tests.{ne_eqb}
 use mathlib.Core.Path.{◌≡◌, sym}
+use native.Mathlib.Omega.{arith}
 use lib.ListN.{get_or}
 use Rattle.addresses.specs.Addresses.{short_of}
 use Rattle.places.proofs.tone_at.Goals.{After-short_of-short}
@@ -22,6 +22,12 @@ returns-in-10 c = rw (short-is (goal.at.returns-in-10 c).After-short_of-short, c
 
 pub returns-in_default : goal.returns-in_default
 returns-in_default c =
-    let other = c.in_default.rest in
     let short = c.short_of-short.result in
-    rw (short-is (goal.at.returns-in_default c).After-short_of-short, ne_eqb short 5 other.0.0.1, ne_eqb short 9 other.0.1, ne_eqb short 10 other.1, c.numbers_at-in_default.ensures, c.carried_at-carried.ensures)
+    rw (
+      short-is (goal.at.returns-in_default c).After-short_of-short,
+      ne_eqb short 5 (λ e. omega (arith, e)),
+      ne_eqb short 9 (λ e. omega (arith, e)),
+      ne_eqb short 10 (λ e. omega (arith, e)),
+      c.numbers_at-in_default.ensures,
+      c.carried_at-carried.ensures,
+    )

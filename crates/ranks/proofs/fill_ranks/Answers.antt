@@ -1,33 +1,34 @@
 -- `ranks::fill_ranks` meets its contract: between its turns the ranks of the tones below i are stored. Assumes nothing.
-use Prim.Native.Nat.{◌-◌, ◌≤◌, ◌<◌}
+use Prim.Native.Nat.{◌<◌}
 use native.Mathlib.Omega.{arith}
-use borrow.Author.Rules.{rules}
-use Rattle.line.specs.Arrays.{arrays}
-use Rattle.ranks.specs.Ranks.{free_rank_at, held_rank_at}
-use Rattle.ranks.proofs.Kept.{Stored, stored-none, stored_more, stored-all}
+use Rattle.ranks.proofs.Kept.{stored-none, stored_more, stored-all}
 use Rattle.ranks.proofs.fill_ranks.Goals as goal
 
 pub loop-i-init : goal.loop-i-init
-loop-i-init c = let p = c.requires.under.1 in (omega arith, stored-none p.0, stored-none p.1)
+loop-i-init c = (omega arith, stored-none c.requires.none_from, stored-none c.requires.none_from_2)
 
 pub bounds-limits-i : goal.bounds-limits-i
 bounds-limits-i c = omega (arith, c.requires.arrays_in_range.count_high)
 
 pub put_ranks-requires : goal.put_ranks-requires
 put_ranks-requires c =
-    let a = c in
-    let i = a.loop-i.i in
-    let p = a.requires in
-    let l : i < a.args.count = omega arith in
-    (omega (arith, p.0.count_high), (p.0.cost_high i l, (p.0.shift_high i l, (p.0.steps_rise i l, p.1.0.under i l))))
+    let i = c.loop-i.i in
+    let p = c.requires.arrays_in_range in
+    let l : i < c.args.count = omega arith in
+    record {
+      tone_lt_most_tones = omega (arith, p.count_high);
+      cost_bound = p.cost_high i l;
+      limit_bound = p.shift_high i l;
+      steps_rise = p.steps_rise i l;
+      bits_le_limit = c.requires.under.under i l;
+    }
 
 pub loop-i-preserved : goal.loop-i-preserved
 loop-i-preserved c =
-    let a = c in
     let e = c.put_ranks.ensures in
-    let high = a.requires.arrays_in_range.count_high in
-    rw (e.0, e.1.0)
-    (omega arith, stored_more a.loop-i.invariant.1 (omega arith) (omega (arith, e.1.1)), stored_more a.loop-i.invariant.2 (omega arith) (omega (arith, e.1.1)))
+    let high = c.requires.arrays_in_range.count_high in
+    rw (e.free, e.held)
+    (omega arith, stored_more c.loop-i.invariant.1 (omega arith) (omega arith), stored_more c.loop-i.invariant.2 (omega arith) (omega arith))
 
 pub returns : goal.returns
 returns c =

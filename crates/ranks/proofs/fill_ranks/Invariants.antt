@@ -1,10 +1,8 @@
 -- `ranks::fill_ranks` meets its contract: between its turns the ranks of the tones below i are stored. Assumes nothing.
-use Prim.Native.Nat.{◌-◌, ◌≤◌, ◌<◌}
-use native.Mathlib.Omega.{arith}
-use borrow.Author.Rules.{rules}
+use Prim.Native.Nat.{◌-◌, ◌≤◌}
 use Rattle.line.specs.Arrays.{arrays}
 use Rattle.ranks.specs.Ranks.{free_rank_at, held_rank_at}
-use Rattle.ranks.proofs.Kept.{Stored, stored-none, stored_more, stored-all}
+use Rattle.ranks.proofs.Kept.{Stored}
 use Rattle.ranks.proofs.fill_ranks.Given as goal
 
 abbrev pub invariant-loop-i : goal.invariant-loop-i

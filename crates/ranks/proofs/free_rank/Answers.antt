@@ -10,15 +10,18 @@ use Rattle.ranks.proofs.free_rank.Goals.{After-step_size}
 use Rattle.ranks.proofs.free_rank.Goals as goal
 
 pub step_size-requires : goal.step_size-requires
-step_size-requires c =
-    let p = c.requires.cost_bound in
-    (p.1.1 (omega arith), (p.0, (le_trans (mul-le-mul_left c.args.doublings (omega arith)) p.1.0, omega arith)))
+step_size-requires c = record {
+  steps_rise = c.requires.steps_rise (omega arith);
+  cost_bound = c.requires.cost_bound;
+  bits_bound = le_trans (mul-le-mul_left c.args.doublings (omega arith)) c.requires.limit_bound;
+  bits_bound_2 = omega arith;
+}
 
 small : (c : After-step_size) → c.step_size.result < 2 ^ 39
 small c =
     let a = c.args in
-    let p = step-size-requires c _ in
-    rw c.step_size.ensures (size_high a.cost a.doublings a.rest a.bits p.1.0 p.1.1.0)
+    rw c.step_size.ensures
+    (size_high a.cost a.doublings a.rest a.bits c.requires.cost_bound (le_trans (mul-le-mul_left a.doublings (omega arith)) c.requires.limit_bound))
 
 pub overflow_mul-result : goal.overflow_mul-result
 overflow_mul-result c = record { fits = omega (arith, small (goal.at.overflow_mul-result c).After-step_size) }

@@ -3,7 +3,6 @@ use mathlib.Core.Path.{refl}
 use Prim.Native.Nat.{◌-◌, ◌^◌, ◌<◌}
 use native.Mathlib.Nat.{le_trans, mul-le-mul_left}
 use native.Mathlib.Omega.{arith}
-use borrow.Author.Rules.{rules}
 use borrow.Author.Tests.{lt-ltb, le-ltb}
 use Rattle.ranks.specs.Ranks.{no_step}
 use Rattle.ranks.proofs.Sizes.{size_high}
@@ -11,15 +10,18 @@ use Rattle.ranks.proofs.held_rank.Goals.{After-step_size}
 use Rattle.ranks.proofs.held_rank.Goals as goal
 
 pub step_size-requires : goal.step_size-requires
-step_size-requires c =
-    let p = c.requires.cost_bound in
-    (p.1.1 (omega arith), (p.0, (le_trans (mul-le-mul_left c.args.doublings (omega arith)) p.1.0, omega arith)))
+step_size-requires c = record {
+  steps_rise = c.requires.steps_rise (omega arith);
+  cost_bound = c.requires.cost_bound;
+  bits_bound = le_trans (mul-le-mul_left c.args.doublings (omega arith)) c.requires.bits_bound;
+  bits_bound_2 = omega arith;
+}
 
 small : (c : After-step_size) → c.step_size.result < 2 ^ 39
 small c =
     let a = c.args in
-    let p = step-size-requires c _ in
-    rw c.step_size.ensures (size_high a.cost a.doublings a.rest (a.bits - 1) p.1.0 p.1.1.0)
+    rw c.step_size.ensures
+    (size_high a.cost a.doublings a.rest (a.bits - 1) c.requires.cost_bound (le_trans (mul-le-mul_left a.doublings (omega arith)) c.requires.bits_bound))
 
 pub overflow_mul-result : goal.overflow_mul-result
 overflow_mul-result c = record { fits = omega (arith, small (goal.at.overflow_mul-result c).After-step_size) }

@@ -1,22 +1,21 @@
 -- `ranks::step_size` meets its contract. Assumes nothing.
 use native.Mathlib.Nat.{le_of_lt, le_trans}
 use native.Mathlib.Numerals.{add-one}
-use borrow.Author.Rules.{rules}
 use Rattle.ranks.proofs.Sizes.{shift-less, power-rises}
 use Rattle.ranks.proofs.step_size.Goals as goal
 
 pub power_at-requires : goal.power_at-requires
 power_at-requires c = record {
-  cost_bound = c.requires.cost_bound.0;
-  bits_bound = rw (add-one c.args.bits) c.requires.cost_bound.1.0;
+  cost_bound = c.requires.cost_bound;
+  bits_bound = rw (add-one c.args.bits) c.requires.bits_bound;
 }
 
 pub power_at-requires-2 : goal.power_at-requires-2
 power_at-requires-2 c =
     let a = c in
     record {
-      cost_bound = a.requires.cost_bound.0;
-      bits_bound = le_trans (shift-less a.args.doublings a.args.bits) a.requires.cost_bound.1.0;
+      cost_bound = a.requires.cost_bound;
+      bits_bound = le_trans (shift-less a.args.doublings a.args.bits) a.requires.bits_bound;
     }
 
 pub overflow_sub-result : goal.overflow_sub-result

@@ -1,7 +1,6 @@
 -- `rows::bytes_of` meets its contract. Assumes nothing.
 use mathlib.Core.Logic.{⊎_elim}
 use native.Mathlib.Omega.{arith}
-use borrow.Author.Rules.{rules}
 use Rattle.rows.specs.Codes.{ToneCode, RestCode, HighCode}
 use Rattle.addresses.proofs.Widths.{neither}
 use Rattle.rows.proofs.Judging.{end_row}
@@ -63,20 +62,16 @@ returns-in-28 c = (rw c.in-28.is, omega arith)
 no-tone : (c : In_default) → ToneCode c.args.code → ⊥
 no-tone c =
     let code = c.args.code in
-    let other = c.in_default.rest in
-    ⊎_elim (⊎_elim (neither code 4 other.0.0.0.0.0.0.0.0.0.0.0.0.0.1 other.0.0.0.0.0.1) (neither code 5 other.0.0.0.0.0.0.0.0.0.0.0.0.1 other.0.0.0.0.1)) (⊎_elim (neither code 9 other.0.0.0.0.0.0.0.0.0.1 other.0.0.0.1) (neither code 10 other.0.0.0.0.0.0.0.0.1 other.0.0.1))
+    ⊎_elim (⊎_elim (neither code 4 (λ e. omega (arith, e)) (λ e. omega (arith, e))) (neither code 5 (λ e. omega (arith, e)) (λ e. omega (arith, e)))) (⊎_elim (neither code 9 (λ e. omega (arith, e)) (λ e. omega (arith, e))) (neither code 10 (λ e. omega (arith, e)) (λ e. omega (arith, e))))
 
 no_rest : (c : In_default) → RestCode c.args.code → ⊥
 no_rest c =
-    let other = c.in_default.rest in
-    neither c.args.code 11 other.0.0.0.0.0.0.0.1 other.0.1
+    neither c.args.code 11 (λ e. omega (arith, e)) (λ e. omega (arith, e))
 
 no_high : (c : In_default) → HighCode c.args.code → ⊥
 no_high c =
-    let other = c.in_default.rest in
-    neither c.args.code 12 other.0.0.0.0.0.0.1 other.1
+    neither c.args.code 12 (λ e. omega (arith, e)) (λ e. omega (arith, e))
 
 pub returns-in_default : goal.returns-in_default
 returns-in_default c =
-    let other = c.in_default.rest in
-    (rw (end_row c.args.code (no-tone (goal.at.returns-in_default c).In_default) (no_rest (goal.at.returns-in_default c).In_default) (no_high (goal.at.returns-in_default c).In_default) other.0.0.0.0.0.0.0.0.0.0.0.0.0.0.0.0.1 other.0.0.0.0.0.0.0.0.0.0.0.0.0.0.0.1 other.0.0.0.0.0.0.0.0.0.0.0.0.0.0.1 other.0.0.0.0.0.0.0.0.0.0.0.1 other.0.0.0.0.0.0.0.0.0.0.1), omega arith)
+    (rw (end_row c.args.code (no-tone (goal.at.returns-in_default c).In_default) (no_rest (goal.at.returns-in_default c).In_default) (no_high (goal.at.returns-in_default c).In_default) (λ e. omega (arith, e)) (λ e. omega (arith, e)) (λ e. omega (arith, e)) (λ e. omega (arith, e)) (λ e. omega (arith, e))), omega arith)

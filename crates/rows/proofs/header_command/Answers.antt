@@ -2,7 +2,6 @@
 use mathlib.Core.Path.{◌≡◌, sym, ◌∙◌}
 use Prim.Native.Nat.{◌+◌}
 use native.Mathlib.Omega.{arith}
-use borrow.Author.Rules.{rules}
 use Rattle.bigendian.specs.Number.{number}
 use Rattle.bigendian.proofs.Numbers.{number-there}
 use Rattle.rows.proofs.Judging.{below, above, in_range, one-operand, header-width}
@@ -12,7 +11,7 @@ use Rattle.rows.proofs.header_command.Goals as goal
 -- the operand is there, and is read
 budget-read : (c : After-number_at-budget) → let a = c.args in c.number_at-budget.result ≡ number a.s.now (a.at + 1) 8
 budget-read c =
-    c.number_at-budget.ensures.meaning ∙ number-there _ _ 8 (omega arith) (omega (arith, rw c.if-code-eq3.true at c.requires.code_bound.1.0))
+    c.number_at-budget.ensures.meaning ∙ number-there _ _ 8 (omega arith) (omega (arith, rw c.if-code-eq3.true at c.requires.code_in_bounds))
 
 two-read : (c : After-number_at-n) → let a = c.args in c.number_at-n.result ≡ number a.s.now (a.at + 1) 2
 two-read c =

@@ -2,7 +2,6 @@
 use mathlib.Core.Path.{◌≡◌, refl, sym, ◌∙◌}
 use Prim.Native.Nat.{◌+◌}
 use native.Mathlib.Omega.{arith}
-use borrow.Author.Rules.{rules}
 use Rattle.bigendian.specs.Number.{number}
 use Rattle.bigendian.proofs.Numbers.{number-there}
 use Rattle.rows.proofs.Judging.{above, in_range, silence-operands}
@@ -12,9 +11,6 @@ use Rattle.rows.proofs.silence_command.Goals as goal
 -- the map is there, and is read
 map_read : (c : After-number_at-map) → let a = c.args in c.number_at-map.result ≡ number a.s.now (a.at + 2) 4
 map_read c = c.number_at-map.ensures.meaning ∙ number-there _ _ 4 (omega arith) (omega arith)
-
-pub overflow_cast-word : goal.overflow_cast-word
-overflow_cast-word c = omega (arith, c.shared_slice_known-2-1.given (c.args.at + 1))
 
 pub returns-then-word-ge-WORDS : goal.returns-then-word-ge-WORDS
 returns-then-word-ge-WORDS c known =

@@ -1,7 +1,6 @@
 -- `rows::tenths_command` meets its contract. Assumes nothing.
 use mathlib.Core.Path.{sym, ◌∙◌}
 use native.Mathlib.Omega.{arith}
-use borrow.Author.Rules.{rules}
 use Rattle.bigendian.proofs.Numbers.{number-one}
 use Rattle.rows.proofs.Judging.{above, in_range, one-operand}
 use Rattle.rows.proofs.tenths_command.Goals as goal

@@ -1,6 +1,5 @@
 -- `sheet::check` meets its contract: what it counts in the index is what it counts of the line. Assumes nothing.
 use native.Mathlib.Omega.{arith}
-use borrow.Author.Rules.{rules}
 use Rattle.silence.proofs.Maps.{counted-le}
 use Rattle.sheet.specs.Reading.{reading}
 use Rattle.sheet.proofs.Uses.{read-line, refused-is, size_high}
@@ -8,7 +7,7 @@ use Rattle.sheet.proofs.Counts.{counts-are, check-numbers}
 use Rattle.sheet.proofs.check.Goals as goal
 
 pub placed_count-described-requires : goal.placed_count-described-requires
-placed_count-described-requires c = size_high (read-line c.read_sheet-read.ensures c.in-Accepted.is).index (λ i. (c.shared_slice_known-1.given i).fits)
+placed_count-described-requires c = size_high (read-line c.read_sheet-read.ensures c.in-Accepted.is).index (λ i. (c.type_inv.s i).fits)
 
 pub overflow_cast-result : goal.overflow_cast-result
 overflow_cast-result c = record { fits = omega (arith, counted-le _ _ c.silenced_count.ensures) }
@@ -19,4 +18,4 @@ returns-in-Refused c = check-numbers (reading c.args.s.now) (simp (refused-is c.
 pub returns-in-Accepted : goal.returns-in-Accepted
 returns-in-Accepted c =
     check-numbers (reading c.args.s.now)
-    (counts-are (read-line c.read_sheet-read.ensures c.in-Accepted.is) (λ i. (c.shared_slice_known-1.given i).fits) c.placed_count-described.ensures c.silenced_count.ensures)
+    (counts-are (read-line c.read_sheet-read.ensures c.in-Accepted.is) (λ i. (c.type_inv.s i).fits) c.placed_count-described.ensures c.silenced_count.ensures)

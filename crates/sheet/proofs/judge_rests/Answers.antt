@@ -1,5 +1,4 @@
 -- `sheet::judge_rests` meets its contract. Assumes nothing.
-use borrow.Author.Rules.{rules}
 use Rattle.sheet.proofs.Uses.{judged-refused, judged-over, judged-kept}
 use Rattle.sheet.proofs.judge_rests.Goals as goal
 

@@ -1,7 +1,6 @@
 -- `sheet::noted` meets its contract. Assumes nothing.
 use mathlib.Core.Path.{sym}
 use native.Mathlib.Omega.{arith}
-use borrow.Author.Rules.{rules}
 use lib.ListN.{get_or-eq_default}
 use Rattle.sheet.proofs.noted.Goals as goal
 

@@ -1,17 +1,15 @@
 -- `sheet::read_commands` meets its contract. Assumes nothing.
 use mathlib.Core.Path.{◌≡◌}
-use Prim.Native.Nat.{suc, ◌-◌}
 use native.Mathlib.Omega.{arith}
 use borrow.Author.Rules.{rules}
-use lib.ListN.{length, get_or}
+use lib.ListN.{get_or}
 use Rattle.rows.specs.declared.Command.{Command}
 use Rattle.addresses.specs.Addresses.{addressed}
 use Rattle.rows.specs.Codes.{known_at}
 use Rattle.command.specs.Format.{today, command_at}
 use Rattle.command.proofs.Said.{Said}
 use Rattle.sheet.specs.Reading.{header_of, known_of}
-use Rattle.sheet.proofs.Sound.{Bytes}
-use Rattle.sheet.proofs.Turns.{Going, starts, known-in-range, heard, described-small, rested-small, widened_small, on-refused, on-more, on-end, on-head, on-describe, on-rest, on-high, on-silence}
+use Rattle.sheet.proofs.Turns.{starts, known-in-range, heard, described-small, rested-small, widened_small, on-refused, on-more, on-end, on-head, on-describe, on-rest, on-high, on-silence}
 use Rattle.sheet.proofs.read_commands.Goals.{After-decode-decoded}
 use Rattle.sheet.proofs.read_commands.Goals as goal
 
@@ -31,12 +29,8 @@ known : (c : After-decode-decoded) (m : Command) → c.decode-decoded.result.com
     Said (header_of x.line) (known_of x (addressed s a.loop-refusal.at)) s a.loop-refusal.at a.loop-refusal.stage c.decode-decoded.result.next m
 known c = heard c.loop-refusal.invariant (met c)
 
--- the sheet's elements are bytes
-are-bytes : (c : After-decode-decoded) → Bytes c.args.s.now
-are-bytes c i = (c.shared_slice_known-1.given i).fits
-
 pub loop-refusal-init : goal.loop-refusal-init
-loop-refusal-init c = rw (c.requires.places_value, c.requires.rests_value.0, c.requires.rests_value.1.0, c.requires.rests_value.1.1) (starts _)
+loop-refusal-init c = rw (c.requires.places_value, c.requires.rests_value, c.requires.highs_value, c.requires.maps_value) (starts _)
 
 pub noted-place-requires : goal.noted-place-requires
 noted-place-requires c = c.loop-refusal.invariant.index.places_sized
@@ -106,28 +100,28 @@ pub loop-refusal-smaller-in-Head : goal.loop-refusal-smaller-in-Head
 loop-refusal-smaller-in-Head c = let k = known (goal.at.loop-refusal-smaller-in-Head c).After-decode-decoded _ c.in-Head.is in omega arith
 
 pub loop-refusal-preserved-in-Head : goal.loop-refusal-preserved-in-Head
-loop-refusal-preserved-in-Head c = on-head c.loop-refusal.invariant (met (goal.at.loop-refusal-preserved-in-Head c).After-decode-decoded) (are-bytes (goal.at.loop-refusal-preserved-in-Head c).After-decode-decoded) _ c.in-Head.is
+loop-refusal-preserved-in-Head c = on-head c.loop-refusal.invariant (met (goal.at.loop-refusal-preserved-in-Head c).After-decode-decoded) (λ i. (c.type_inv.s i).fits) _ c.in-Head.is
 
 pub loop-refusal-smaller-in-Describe : goal.loop-refusal-smaller-in-Describe
 loop-refusal-smaller-in-Describe c = let k = known (goal.at.loop-refusal-smaller-in-Describe c).After-decode-decoded _ c.in-Describe.is in omega arith
 
 pub loop-refusal-preserved-in-Describe : goal.loop-refusal-preserved-in-Describe
-loop-refusal-preserved-in-Describe c = on-describe c.loop-refusal.invariant (met (goal.at.loop-refusal-preserved-in-Describe c).After-decode-decoded) (are-bytes (goal.at.loop-refusal-preserved-in-Describe c).After-decode-decoded) _ c.in-Describe.is
+loop-refusal-preserved-in-Describe c = on-describe c.loop-refusal.invariant (met (goal.at.loop-refusal-preserved-in-Describe c).After-decode-decoded) (λ i. (c.type_inv.s i).fits) _ c.in-Describe.is
 
 pub loop-refusal-smaller-in-Rest : goal.loop-refusal-smaller-in-Rest
 loop-refusal-smaller-in-Rest c = let k = known (goal.at.loop-refusal-smaller-in-Rest c).After-decode-decoded _ c.in-Rest.is in omega arith
 
 pub loop-refusal-preserved-in-Rest : goal.loop-refusal-preserved-in-Rest
-loop-refusal-preserved-in-Rest c = on-rest c.loop-refusal.invariant (met (goal.at.loop-refusal-preserved-in-Rest c).After-decode-decoded) (are-bytes (goal.at.loop-refusal-preserved-in-Rest c).After-decode-decoded) _ c.in-Rest.is
+loop-refusal-preserved-in-Rest c = on-rest c.loop-refusal.invariant (met (goal.at.loop-refusal-preserved-in-Rest c).After-decode-decoded) (λ i. (c.type_inv.s i).fits) _ c.in-Rest.is
 
 pub loop-refusal-smaller-in-High : goal.loop-refusal-smaller-in-High
 loop-refusal-smaller-in-High c = let k = known (goal.at.loop-refusal-smaller-in-High c).After-decode-decoded _ c.in-High.is in omega arith
 
 pub loop-refusal-preserved-in-High : goal.loop-refusal-preserved-in-High
-loop-refusal-preserved-in-High c = on-high c.loop-refusal.invariant (met (goal.at.loop-refusal-preserved-in-High c).After-decode-decoded) (are-bytes (goal.at.loop-refusal-preserved-in-High c).After-decode-decoded) _ c.in-High.is
+loop-refusal-preserved-in-High c = on-high c.loop-refusal.invariant (met (goal.at.loop-refusal-preserved-in-High c).After-decode-decoded) (λ i. (c.type_inv.s i).fits) _ c.in-High.is
 
 pub loop-refusal-smaller : goal.loop-refusal-smaller
 loop-refusal-smaller c = let k = known (goal.at.loop-refusal-smaller c).After-decode-decoded _ c.in-Silence.is in omega arith
 
 pub loop-refusal-preserved : goal.loop-refusal-preserved
-loop-refusal-preserved c = on-silence c.loop-refusal.invariant (met (goal.at.loop-refusal-preserved c).After-decode-decoded) (are-bytes (goal.at.loop-refusal-preserved c).After-decode-decoded) _ _ (search rules) c.in-Silence.is
+loop-refusal-preserved c = on-silence c.loop-refusal.invariant (met (goal.at.loop-refusal-preserved c).After-decode-decoded) (λ i. (c.type_inv.s i).fits) _ _ (search rules) c.in-Silence.is

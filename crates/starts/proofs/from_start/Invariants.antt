@@ -1,9 +1,7 @@
 -- `starts::from_start` meets its contract. Between the turns the tones below i are copied, with their totals. Assumes nothing.
-use mathlib.Core.Path.{refl}
 use Prim.Native.Nat.{◌-◌}
-use native.Mathlib.Omega.{arith}
 use lib.ListN.{length}
-use Rattle.starts.proofs.Copied.{Copied, none-copied, power-room, copied_more, copied-stands}
+use Rattle.starts.proofs.Copied.{Copied}
 use Rattle.starts.proofs.from_start.Given as goal
 
 abbrev pub invariant-loop-i : goal.invariant-loop-i

@@ -1,11 +1,8 @@
 -- `starts::no_bits` meets its contract. Between the turns the rests of the tones below i are added up. Assumes nothing.
-use mathlib.Core.Path.{◌≡◌, refl}
+use mathlib.Core.Path.{◌≡◌}
 use Prim.Native.Nat.{◌-◌, ◌≤◌}
-use native.Mathlib.Numerals.{add-one}
-use native.Mathlib.Omega.{arith}
 use lib.ListN.{get_or}
 use Rattle.steps.specs.Tones.{sum}
-use Rattle.starts.proofs.Copied.{rests-room, none-starts}
 use Rattle.starts.proofs.no_bits.Given as goal
 
 abbrev pub invariant-loop-i : goal.invariant-loop-i

@@ -1,11 +1,9 @@
 -- `tables::put_table` meets its contract. Between the turns the entries of the tones below i are written. Assumes nothing.
-use mathlib.Core.Path.{◌≡◌}
 use Prim.Native.Nat.{◌-◌, ◌*◌, ◌≤◌}
-use native.Mathlib.Omega.{arith}
 use Rattle.sizes.specs.Sizes.{bytes_a_tone}
-use Rattle.lists.proofs.Joined.{Written, written_none, written_next}
+use Rattle.lists.proofs.Joined.{Written}
 use Rattle.tables.specs.Tables.{tone_entry}
-use Rattle.tables.proofs.Entries.{length-entry, plain, plain-table-bytes}
+use Rattle.tables.proofs.Entries.{plain}
 use Rattle.tables.proofs.put_table.Given as goal
 
 abbrev pub invariant-loop-i : goal.invariant-loop-i

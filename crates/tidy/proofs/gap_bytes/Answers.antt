@@ -2,7 +2,6 @@
 use mathlib.Core.Path.{sym}
 use native.Mathlib.Omega.{arith}
 use Rattle.tidyform.proofs.Length.{length-parts, length-tenths}
-use borrow.Author.Rules.{rules}
 use Rattle.tidy.proofs.gap_bytes.Goals as goal
 
 pub returns-in-Parts : goal.returns-in-Parts

@@ -1,27 +1,24 @@
 -- `tidylengths::command_bytes` meets its contract. Assumes nothing.
 use native.Mathlib.Omega.{arith}
-use borrow.Author.Rules.{rules}
 use lib.ListN.{get_or}
 use Rattle.addresses.proofs.Widths.{width_low}
 use Rattle.tidylengths.proofs.Commands.{length-command}
 use Rattle.tidylengths.proofs.command_bytes.Goals as goal
 
 pub bounds-s-place : goal.bounds-s-place
-bounds-s-place c = let k = c in omega (arith, k.requires.inside.whole k.requires.place_nonzero, k.requires.inside.numbered k.requires.place_nonzero)
+bounds-s-place c = omega (arith, c.requires.inside.whole c.requires.place_nonzero, c.requires.inside.numbered c.requires.place_nonzero)
 
 pub overflow_sub-result : goal.overflow_sub-result
 overflow_sub-result c =
-    let k = c in
-    omega (arith, k.requires.inside.numbered k.requires.place_nonzero, c.number_width.ensures.0, c.bytes_of.ensures.0)
+    omega (arith, c.requires.inside.numbered c.requires.place_nonzero, c.number_width.ensures.0, c.bytes_of.ensures.0)
 
 pub returns : goal.returns
 returns c =
-    let k = c in
-    let a = k.args in (
+    let a = c.args in (
       omega (
         arith,
         length-command a.s.now a.tone a.place,
-        k.requires.inside.numbered k.requires.place_nonzero,
+        c.requires.inside.numbered c.requires.place_nonzero,
         c.tidy_width.ensures.0,
         c.number_width.ensures.0,
         c.bytes_of.ensures.0,

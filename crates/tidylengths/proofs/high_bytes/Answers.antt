@@ -1,7 +1,6 @@
 -- `tidylengths::high_bytes` meets its contract. Assumes nothing.
 use mathlib.Core.Path.{sym, ap, ◌∙◌}
 use native.Mathlib.Omega.{arith}
-use borrow.Author.Rules.{rules}
 use lib.ListN.{length}
 use Rattle.tidylengths.proofs.Commands.{no_high, equal-high, some-high}
 use Rattle.tidylengths.proofs.high_bytes.Goals as goal

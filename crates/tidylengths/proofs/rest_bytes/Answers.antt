@@ -1,7 +1,6 @@
 -- `tidylengths::rest_bytes` meets its contract. Assumes nothing.
 use mathlib.Core.Path.{sym, ap, ◌∙◌}
 use native.Mathlib.Omega.{arith}
-use borrow.Author.Rules.{rules}
 use lib.ListN.{length}
 use Rattle.tidylengths.proofs.Commands.{some-rest, no_rest, rest-placed}
 use Rattle.tidylengths.proofs.rest_bytes.Goals as goal

@@ -1,13 +1,9 @@
 -- `tidylengths::tones_bytes` meets its contract. Between the turns the tones below i are counted. Assumes nothing.
 use mathlib.Core.Path.{◌≡◌}
 use Prim.Native.Nat.{◌+◌, ◌-◌, ◌*◌, ◌≤◌}
-use native.Mathlib.Numerals.{add-one}
-use native.Mathlib.Omega.{arith}
-use lib.ListN.{length, get_or}
+use lib.ListN.{length}
 use Rattle.sizes.specs.Sizes.{levels_command}
-use Rattle.lists.proofs.Joined.{length_none, length-next}
-use Rattle.tidylengths.specs.Copies.{copy_at, copies}
-use Rattle.tidylengths.proofs.Commands.{length-entry}
+use Rattle.tidylengths.specs.Copies.{copies}
 use Rattle.tidylengths.proofs.tones_bytes.Given as goal
 
 abbrev pub invariant-loop-i : goal.invariant-loop-i

@@ -1,9 +1,6 @@
 -- `tidytones::copy` meets its contract. Between the turns the first i bytes are copied. Assumes nothing.
-use mathlib.Core.Path.{◌≡◌, refl}
 use Prim.Native.Nat.{◌+◌, ◌-◌, ◌≤◌}
-use native.Mathlib.Nat.{add-zero}
-use native.Mathlib.Omega.{arith}
-use Rattle.lists.proofs.Joined.{Written, written_none, written_next}
+use Rattle.lists.proofs.Joined.{Written}
 use Rattle.tidylengths.specs.Copies.{byte_from}
 use Rattle.tidytones.proofs.copy.Given as goal
 

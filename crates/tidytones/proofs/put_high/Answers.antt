@@ -1,7 +1,6 @@
 -- `tidytones::put_high` meets its contract. Assumes nothing.
 use mathlib.Core.Path.{◌≡◌, refl, sym, ap, ◌∙◌}
 use native.Mathlib.Omega.{arith}
-use borrow.Author.Rules.{rules}
 use lib.ListN.{length}
 use Rattle.line.specs.Tone.{noise_of}
 use Rattle.places.specs.Places.{tone_at, high_at}
@@ -10,13 +9,13 @@ use Rattle.tidytones.proofs.put_high.Goals.{Else-high_at-noise_at}
 use Rattle.tidytones.proofs.put_high.Goals as goal
 
 pub returns-then-widened-lt1 : goal.returns-then-widened-lt1
-returns-then-widened-lt1 c = let a = c.args in rw (no_high a.s.now a.tone a.place a.widened (omega arith)) (omega arith, refl)
+returns-then-widened-lt1 c = let a = c.args in rw (no_high a.s.now a.tone a.place a.widened (omega arith)) record { place = omega arith; bytes = refl }
 
 pub returns-then-high_at-noise_at : goal.returns-then-high_at-noise_at
 returns-then-high_at-noise_at c =
     let a = c.args in
     let e = sym c.high_at.ensures ∙ c.if-high_at-noise_at.true ∙ c.noise_at.ensures in
-    rw (equal-high a.s.now a.tone a.place a.widened (omega arith) e) (omega arith, refl)
+    rw (equal-high a.s.now a.tone a.place a.widened (omega arith) e) record { place = omega arith; bytes = refl }
 
 -- a high noise that is another than the tone's
 other : (c : Else-high_at-noise_at) → (let a = c.args in high_at a.s.now a.widened ≡ noise_of (tone_at a.s.now a.place).kind → ⊥)
@@ -24,13 +23,9 @@ other c e = c.if-high_at-noise_at.false (c.high_at.ensures ∙ e ∙ sym c.noise
 
 pub put_command-requires : goal.put_command-requires
 put_command-requires c =
-    let k = c in
-    let a = k.args in
-    (omega arith, (k.requires.inside, omega (arith, k.requires.widened_in_bounds, ap length (some-high a.s.now a.tone a.place a.widened (omega arith) (other (goal.at.put_command-requires c).Else-high_at-noise_at)))))
-
--- NO GOAL same-length OF ['returns-then-widened-lt1', 'high-at-requires', 'noise-at-requires', 'returns-then-high-at-noise-at', 'put-command-requires', 'returns', 'returns-2', 'returns-3']
-same_length : tie.Need-same-length
-same_length c = c.before.before.put-command.auto.1.1.1.0
+    let a = c.args in
+    let some = some-high a.s.now a.tone a.place a.widened (omega arith) (other (goal.at.put_command-requires c).Else-high_at-noise_at) in
+    record { place_nonzero = omega arith; inside = c.requires.inside; bytes_in_bounds = omega (arith, c.requires.bytes_in_bounds, ap length some) }
 
 pub returns : goal.returns
 returns c =

@@ -12,37 +12,31 @@ use Rattle.tidytones.proofs.put_tone.Goals as goal
 -- all three commands have room
 room : (c : Start) → (let a = c.args in
     a.at + length (tone_copy a.s.now a.tone a.place) + length (rest_copy a.s.now a.tone a.rested)
-    + length (high_copy a.s.now a.tone a.place a.widened) ≤ length a.out-1.now)
-room c = let a = c.args in omega (arith, c.requires.inside_2.1.1, length-entry a.s.now a.tone a.place a.rested a.widened)
+    + length (high_copy a.s.now a.tone a.place a.widened) ≤ length a.out.now)
+room c = let a = c.args in omega (arith, c.requires.bytes_in_bounds, length-entry a.s.now a.tone a.place a.rested a.widened)
 
 pub put_own-own_end-requires : goal.put_own-own_end-requires
 put_own-own_end-requires c = record {
-  inside = c.requires.inside;
-  place_in_bounds = omega (arith, room (goal.at.put_own-own_end-requires c).Start);
+  inside = c.requires.own_inside;
+  bytes_in_bounds = omega (arith, room (goal.at.put_own-own_end-requires c).Start);
 }
 
 pub put_rest-rest_end-requires : goal.put_rest-rest_end-requires
 put_rest-rest_end-requires c =
-    let k = c in
     let own = c.put_own-own_end in
     record {
-      inside = k.requires.inside_2.0;
-      rested_in_bounds = omega (arith, room (goal.at.put_rest-rest_end-requires c).Start, own.ensures.0, own.auto.1.1.1.0);
+      inside = c.requires.rest_inside;
+      bytes_in_bounds = omega (arith, room (goal.at.put_rest-rest_end-requires c).Start, own.ensures.place);
     }
 
 pub put_high-requires : goal.put_high-requires
 put_high-requires c =
-    let k = c in
     let own = c.put_own-own_end in
     let rest = c.put_rest-rest_end in
     record {
-      inside = k.requires.inside_2.1.0;
-      widened_in_bounds = omega (arith, room (goal.at.put_high-requires c).Start, own.ensures.0, own.auto.1.1.1.0, rest.ensures.0, rest.auto.1.1.1.0);
+      inside = c.requires.high_inside;
+      bytes_in_bounds = omega (arith, room (goal.at.put_high-requires c).Start, own.ensures.place, rest.ensures.place);
     }
-
--- NO GOAL same-length OF ['put-own-own-end-requires', 'put-rest-rest-end-requires', 'put-high-requires', 'returns', 'put-own-requires', 'put-rest-requires']
-same_length : tie.Need-same-length
-same_length c = c.before.before.put-high.auto.1.1.1.1.0 ∙ c.before.before.before.before.before.before.put_rest.auto.1.1.1.0 ∙ c.before.before.before.before.before.before.before.before.before.before.put-own.auto.1.1.1.0
 
 pub returns : goal.returns
 returns c =
@@ -50,6 +44,6 @@ returns c =
     let own = c.put_own-own_end.ensures in
     let rest = c.put_rest-rest_end.ensures in
     let high = c.put_high.ensures in record {
-      place = omega (arith, own.0, rest.0, high.0, length-entry a.s.now a.tone a.place a.rested a.widened);
-      bytes = high.1 ∙ rw (rest.0, rest.1, own.0, own.1) (sym (entry-stores a.s.now a.tone a.place a.rested a.widened a.out-1.now a.at));
+      place = omega (arith, own.place, rest.place, high.place, length-entry a.s.now a.tone a.place a.rested a.widened);
+      bytes = high.bytes ∙ rw (rest.place, rest.bytes, own.place, own.bytes) (sym (entry-stores a.s.now a.tone a.place a.rested a.widened a.out.now a.at));
     }

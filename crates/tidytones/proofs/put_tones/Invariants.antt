@@ -1,8 +1,6 @@
 -- `tidytones::put_tones` meets its contract. Between the turns the tones below i are written. Assumes nothing.
-use mathlib.Core.Path.{◌≡◌}
 use Prim.Native.Nat.{◌-◌, ◌≤◌}
-use native.Mathlib.Omega.{arith}
-use Rattle.lists.proofs.Joined.{Written, written_none, written-room, written_next}
+use Rattle.lists.proofs.Joined.{Written}
 use Rattle.tidylengths.specs.Copies.{copy_at}
 use Rattle.tidytones.proofs.put_tones.Given as goal
 

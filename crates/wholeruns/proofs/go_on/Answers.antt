@@ -1,9 +1,6 @@
 -- `wholeruns::go_on` meets its contract. Between the steps what is left of the run is the rest of the whole one. Assumes nothing.
-use Prim.Native.Nat.{◌-◌}
 use native.Mathlib.Omega.{arith}
-use borrow.Author.Rules.{rules}
-use Rattle.line.specs.Arrays.{arrays}
-use Rattle.wholeruns.proofs.Along.{Along, along-starts, along-full, along-finished, along-moved}
+use Rattle.wholeruns.proofs.Along.{along-starts, along-full, along-finished, along-moved}
 use Rattle.wholeruns.proofs.go_on.Goals as goal
 
 pub loop-moves-init : goal.loop-moves-init
@@ -21,15 +18,14 @@ overflow_add-moves c = record { fits = omega (arith, c.loop-moves-test.true, c.r
 pub loop-moves-preserved : goal.loop-moves-preserved
 loop-moves-preserved c =
     let ran = c.step-now in
-    let last = ran.new.1.1.1.1.1.1.1.1 in
-    along-moved c.loop-moves.invariant ran.ensures.0 c.loop-moves-test.true c.in-Moved.is {new_free = last.0} {new_held = last.1.0} ran.ensures.1
+    along-moved c.loop-moves.invariant ran.ensures.answer c.loop-moves-test.true c.in-Moved.is {new_free = ran.new.free} {new_held = ran.new.held} ran.ensures.ranks
 
 pub returns-in-Finished : goal.returns-in-Finished
 returns-in-Finished c =
     let did = c.step-now.ensures in
     record {
-      run = along-finished c.loop-moves.invariant did.0 c.loop-moves-test.true c.in-Finished.is;
-      ranks = did.1;
+      run = along-finished c.loop-moves.invariant did.answer c.loop-moves-test.true c.in-Finished.is;
+      ranks = did.ranks;
     }
 
 pub returns : goal.returns

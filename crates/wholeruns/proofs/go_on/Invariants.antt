@@ -1,9 +1,7 @@
 -- `wholeruns::go_on` meets its contract. Between the steps what is left of the run is the rest of the whole one. Assumes nothing.
 use Prim.Native.Nat.{◌-◌}
-use native.Mathlib.Omega.{arith}
-use borrow.Author.Rules.{rules}
 use Rattle.line.specs.Arrays.{arrays}
-use Rattle.wholeruns.proofs.Along.{Along, along-starts, along-full, along-finished, along-moved}
+use Rattle.wholeruns.proofs.Along.{Along}
 use Rattle.wholeruns.proofs.go_on.Given as goal
 
 abbrev pub invariant-loop-moves : goal.invariant-loop-moves

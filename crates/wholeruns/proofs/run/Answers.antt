@@ -8,10 +8,14 @@ use Rattle.wholeruns.proofs.run.Goals as goal
 pub fill_ranks-requires : goal.fill_ranks-requires
 unfolding no_step
 fill_ranks-requires c =
-    let s = c in
-    let R = s.requires in
-    let none : NoneFrom s.args.count (replicate most_tones no_step) = record { none_from = λ i h l. get_or-replicate most_tones i no_step 0 l } in
-    (R.in_range, (stands-under R.stands.table, (none, none)))
+    let R = c.requires in
+    let none : NoneFrom c.args.count (replicate most_tones no_step) = record { none_from = λ i h l. get_or-replicate most_tones i no_step 0 l } in
+    record {
+      arrays_in_range = R.in_range;
+      under = stands-under R.stands.table;
+      none_from = none;
+      none_from_2 = none;
+    }
 
 pub go_on-requires : goal.go_on-requires
 go_on-requires c = record {

@@ -1,6 +1,5 @@
 -- `running::Running::exchange` meets its contract. Assumes nothing.
 use mathlib.Core.Path.{◌∙◌, ap}
-use borrow.Author.Rules.{rules}
 use Rattle.running.specs.declared.Running.{Running}
 use Rattle.running.specs.Running.{taken}
 use Rattle.running.proofs.Changes.{exchanges, both-followed}
@@ -13,7 +12,9 @@ pub returns : goal.returns
 returns c =
     let f = c.args.f in
     let gave = c.give_up-self.ensures in
-    let took = c.take.ensures in (
-      took.0 ∙ ap (λ (r : Running). taken r f) gave.0,
-      (exchanges gave.1.0 took.1.0, both-followed gave.1.1 took.1.1),
-    )
+    let took = c.take.ensures in
+    record {
+      value = took.value ∙ ap (λ (r : Running). taken r f) gave.value;
+      leads = exchanges gave.leads took.leads;
+      ranks_follow = both-followed gave.ranks_follow took.ranks_follow;
+    }

@@ -1,5 +1,4 @@
 -- `running::Running::step` meets its contract: the move that is called for is the rule's, and it is made. Assumes nothing.
-use mathlib.Core.Logic.{⊎_elim}
 use mathlib.Core.Path.{◌≡◌, refl}
 use native.Mathlib.Omega.{arith}
 use borrow.Author.Rules.{rules}
@@ -7,67 +6,70 @@ use lib.ListN.{length}
 use Rattle.sizes.specs.Sizes.{most_tones}
 use Rattle.steps.specs.Tones.{Tones, Table}
 use Rattle.steps.specs.Runs.{giving_up}
-use Rattle.line.specs.Arrays.{Arrays, arrays}
+use Rattle.line.specs.Arrays.{arrays}
 use Rattle.ranks.specs.Ranks.{no_step}
 use Rattle.ranks.proofs.Least.{least-free, least-held}
+use Rattle.moves.specs.declared.Move.TheVariants.{Take, GiveUp, Exchange}
+use Rattle.moves.specs.declared.Step.{Step}
 use Rattle.moves.specs.Moves.{rule_of, LatestAt, CallsFor}
 use Rattle.running.specs.Running.{Stands, NextFree, LastHeld}
 use Rattle.running.proofs.Changes.{inside, next-free, last-held, held-and-free, knows, power-high, can-take, can-give-up, can-exchange}
-use Rattle.running.proofs.Running.step.Goals.{After-next_move-next, In-Exchange-2, In-GiveUp-2, In-Take-2, Start}
+use Rattle.running.proofs.Running.step.Goals.{After-next_move-next, in-Add, in-Refit}
 use Rattle.running.proofs.Running.step.Goals as goal
-
--- the arrays that it was lent
-abbrev lent : Start → Arrays
-lent s = arrays s.args.limits.now s.args.costs.now s.args.doublings.now s.args.rests.now
-
--- a running table has bits for the most tones
-long : (s : Start) → length s.args.self.bits ≡ most_tones
-long s = search rules
 
 pub next_move-next-requires : goal.next_move-next-requires
 next_move-next-requires c = omega (arith, power-high c.requires.runnable)
 
 -- the move is the one that the rule calls for, whatever table the running table stands for
-called : (c : After-next_move-next) (T : Tones) (t : Table) → let s = c in
-    Stands s.args.count (lent s) s.args.self T t
-    → CallsFor T t c.next_move-next.result (rule_of s.args.rule T s.args.budget t)
+called : (c : After-next_move-next) (T : Tones) (t : Table)
+    → Stands c.args.count (arrays c.args.limits.now c.args.costs.now c.args.doublings.now c.args.rests.now) c.args.self T t
+    → CallsFor T t c.next_move-next.result (rule_of c.args.rule T c.args.budget t)
 unfolding no_step
 called c T t S =
-    let s = c in
-    let I = s.requires.runnable.in_range in
-    let K = s.requires.ranked in
-    let last : LatestAt s.args.rule T t c.match-rule.latest =
-    ⊎_elim (λ w. rw w.1.given.1 tt) (λ w. rw (w.1.given.1, w.4) (least-held I S.table K w.3.ensures)) c.match-rule.branch in
+    let I = c.requires.runnable.in_range in
+    let K = c.requires.ranked in
+    let last : LatestAt c.args.rule T t c.match-rule.latest = elim c.match-rule.branch [
+      | in-Add w ↦ rw w.in-Add.is tt
+      | in-Refit w ↦ rw (w.in-Refit.is, w.latest-is) (least-held I S.table K w.least.ensures)
+    ] in
     c.next_move-next.ensures T t (knows S I (least-free I S.table K c.least-earliest.ensures) last)
 
--- so it is of the table that is known of, and that table allows it
-known : (c : After-next_move-next) → let s = c in let R = s.requires.runnable in
-    CallsFor R.tones R.table c.next_move-next.result (rule_of s.args.rule R.tones s.args.budget R.table)
+-- so it is of the table that is known of
+known : (c : After-next_move-next) → let R = c.requires.runnable in
+    CallsFor R.tones R.table c.next_move-next.result (rule_of c.args.rule R.tones c.args.budget R.table)
 known c = let R = c.requires.runnable in called c R.tones R.table R.stands
 
-free : (c : In-Take-2) → let R = c.requires.runnable in NextFree R.tones R.table c.in-Take.f
-free c = next-free c.requires.runnable.stands (rw c.in-Take.is at (known c)).1
+-- and that table allows it
+free : (c : After-next_move-next) {f : Step} → c.next_move-next.result ≡ Take f
+    → let R = c.requires.runnable in NextFree R.tones R.table f
+free c e = next-free c.requires.runnable.stands (rw e at (known c)).1
 
-held : (c : In-GiveUp-2) → let R = c.requires.runnable in LastHeld R.tones R.table c.in-GiveUp.h
-held c = last-held c.requires.runnable.stands (rw c.in-GiveUp.is at (known c)).1
+held : (c : After-next_move-next) {h : Step} → c.next_move-next.result ≡ GiveUp h
+    → let R = c.requires.runnable in LastHeld R.tones R.table h
+held c e = last-held c.requires.runnable.stands (rw e at (known c)).1
 
-both : (c : In-Exchange-2) → let R = c.requires.runnable in let h = c.in-Exchange.h in
-    LastHeld R.tones R.table h × NextFree R.tones (giving_up R.table h.tone) c.in-Exchange.f
-both c = held-and-free c.requires.runnable.stands (rw c.in-Exchange.is at (known c)).1
+both : (c : After-next_move-next) {h f : Step} → c.next_move-next.result ≡ Exchange h f
+    → let R = c.requires.runnable in LastHeld R.tones R.table h × NextFree R.tones (giving_up R.table h.tone) f
+both c e = held-and-free c.requires.runnable.stands (rw e at (known c)).1
 
 pub take-requires : goal.take-requires
-take-requires c = can-take c.requires.runnable (free (goal.at.take-requires c).In-Take-2)
+take-requires c =
+    let R = c.requires.runnable in
+    can-take R (free (goal.at.take-requires c).After-next_move-next c.in-Take.is)
 
 pub give_up-requires : goal.give_up-requires
-give_up-requires c = can-give-up c.requires.runnable (held (goal.at.give_up-requires c).In-GiveUp-2)
+give_up-requires c =
+    let R = c.requires.runnable in
+    can-give-up R (held (goal.at.give_up-requires c).After-next_move-next c.in-GiveUp.is)
 
 pub exchange-requires : goal.exchange-requires
 exchange-requires c =
-    let s = c in
-    let B = both (goal.at.exchange-requires c).In-Exchange-2 in
+    let R = c.requires.runnable in
+    let B = both (goal.at.exchange-requires c).After-next_move-next c.in-Exchange.is in
+    let long : length c.args.self.bits ≡ most_tones = search rules in
     record {
-      can_give_up = can-give-up s.requires.runnable B.0;
-      can_take = can-exchange s.requires.runnable (long s) B;
+      can_give_up = can-give-up R B.0;
+      can_take = can-exchange R long B;
     }
 
 pub returns-in-Nothing : goal.returns-in-Nothing
@@ -78,28 +80,32 @@ returns-in-Nothing c = record {
 
 pub returns-in-Take : goal.returns-in-Take
 returns-in-Take c =
-    let s = c in
-    let at = c in
-    let did = c.take.ensures.leads in record {
-      answer = λ T t S. let N = rw at.in-Take.is at (called (goal.at.returns-in-Take c).After-next_move-next T t S) in rw N.0 (refl, did.0.stands _ T t S (next-free {A = lent s} S N.1));
-      ranks = did.1.still_ranked s.args.count (inside s.requires.runnable.stands.table (free (goal.at.returns-in-Take c).In-Take-2).free.tone) s.requires.ranked;
+    let R = c.requires.runnable in
+    let at = (goal.at.returns-in-Take c).After-next_move-next in
+    let did = c.take.ensures in
+    record {
+      answer = λ T t S. let N = rw c.in-Take.is at (called at T t S) in rw N.0 (refl, did.leads.stands _ T t S (next-free S N.1));
+      ranks = did.ranks_follow.still_ranked c.args.count (inside R.stands.table (free at c.in-Take.is).free.tone) c.requires.ranked;
     }
 
 pub returns-in-GiveUp : goal.returns-in-GiveUp
 returns-in-GiveUp c =
-    let s = c in
-    let at = c in
-    let did = c.give_up.ensures.leads in record {
-      answer = λ T t S. let N = rw at.in-GiveUp.is at (called (goal.at.returns-in-GiveUp c).After-next_move-next T t S) in rw N.0 (refl, did.0.stands _ T t S (last-held {A = lent s} S N.1));
-      ranks = did.1.still_ranked s.args.count (inside s.requires.runnable.stands.table (held (goal.at.returns-in-GiveUp c).In-GiveUp-2).held.tone) s.requires.ranked;
+    let R = c.requires.runnable in
+    let at = (goal.at.returns-in-GiveUp c).After-next_move-next in
+    let did = c.give_up.ensures in
+    record {
+      answer = λ T t S. let N = rw c.in-GiveUp.is at (called at T t S) in rw N.0 (refl, did.leads.stands _ T t S (last-held S N.1));
+      ranks = did.ranks_follow.still_ranked c.args.count (inside R.stands.table (held at c.in-GiveUp.is).held.tone) c.requires.ranked;
     }
 
 pub returns-in-Exchange : goal.returns-in-Exchange
 returns-in-Exchange c =
-    let s = c in
-    let at = c in
-    let B = s.requires.runnable.stands.table in
-    let did = c.exchange.ensures.leads in record {
-      answer = λ T t S. let N = rw at.in-Exchange.is at (called (goal.at.returns-in-Exchange c).After-next_move-next T t S) in rw N.0 (refl, did.0.stands _ T t S (held-and-free {A = lent s} S N.1));
-      ranks = did.1.still_ranked s.args.count (inside B (both (goal.at.returns-in-Exchange c).In-Exchange-2).0.held.tone, inside B (both (goal.at.returns-in-Exchange c).In-Exchange-2).1.free.tone) s.requires.ranked;
+    let R = c.requires.runnable in
+    let at = (goal.at.returns-in-Exchange c).After-next_move-next in
+    let did = c.exchange.ensures in
+    let B = both at c.in-Exchange.is in
+    let T = R.stands.table in
+    record {
+      answer = λ T t S. let N = rw c.in-Exchange.is at (called at T t S) in rw N.0 (refl, did.leads.stands _ T t S (held-and-free S N.1));
+      ranks = did.ranks_follow.still_ranked c.args.count (inside T B.0.held.tone, inside T B.1.free.tone) c.requires.ranked;
     }

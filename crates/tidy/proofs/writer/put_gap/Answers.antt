@@ -27,21 +27,15 @@ bounds-out-at-in-Tenths c = omega (arith, tenths-long (goal.at.bounds-out-at-in-
 pub bounds-out-at-in-Tenths-2 : goal.bounds-out-at-in-Tenths-2
 bounds-out-at-in-Tenths-2 c = simp length-set (omega (arith, tenths-long (goal.at.bounds-out-at-in-Tenths-2 c).In-Tenths, c.requires))
 
--- NO GOAL same-length OF ['bounds-out-at', 'overflow-add-at', 'overflow-cast-parts', 'put-number-requires', 'overflow-add-result', 'bounds-out-at-in-Tenths', 'overflow-add-out', 'bounds-out-at-in-Tenths-2', 'overflow-add-result-in-Tenths', 'returns-in-Parts', 'returns-in-Tenths', 'slice-write-out', 'add-put-number', 'cast-put-number', 'add-result', 'slice-write-out-2', 'add-out', 'slice-write-out-3', 'add-result-2', 'returns', 'returns-2']
-same_length : tie.Need-same-length
-same_length c = c.before.before.put-number.auto.0 ∙ simp length-set
-
 pub returns-in-Parts : goal.returns-in-Parts
 returns-in-Parts c =
-    let n = c in
-    let k = n in
-    let s = k in
-    let a = s.args in record {
+    let a = c.args in
+    record {
       place = omega (arith, parts-long (goal.at.returns-in-Parts c).In-Parts);
-      bytes = rw k.in-Parts.is
-          (n.put_number.ensures
-          ∙ number_fits _ _ _ _ (simp length-set (omega (arith, parts-long (goal.at.returns-in-Parts c).In-Parts, s.requires)))
-          ∙ sym (parts-stores a.out-1.now a.at _));
+      bytes = rw c.in-Parts.is
+          (c.put_number.ensures
+          ∙ number_fits _ _ _ _ (simp length-set (omega (arith, parts-long (goal.at.returns-in-Parts c).In-Parts, c.requires)))
+          ∙ sym (parts-stores a.out.now a.at _));
     }
 
 pub returns-in-Tenths : goal.returns-in-Tenths
@@ -49,5 +43,5 @@ returns-in-Tenths c =
     let a = c.args in
     record {
       place = omega (arith, tenths-long (goal.at.returns-in-Tenths c).In-Tenths);
-      bytes = rw c.in-Tenths.is (sym (tenths-stores a.out-1.now a.at _ (search rules)));
+      bytes = rw c.in-Tenths.is (sym (tenths-stores a.out.now a.at _ (search rules)));
     }

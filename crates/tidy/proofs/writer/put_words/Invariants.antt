@@ -1,9 +1,7 @@
 -- `tidy::writer::put_words` meets its contract. Between the turns the words below `word` are written. Assumes nothing.
-use mathlib.Core.Path.{◌≡◌}
 use Prim.Native.Nat.{◌-◌, ◌≤◌}
-use native.Mathlib.Omega.{arith}
 use Rattle.sizes.specs.Sizes.{most_words}
-use Rattle.lists.proofs.Joined.{Written, written_none, written-room, written_next}
+use Rattle.lists.proofs.Joined.{Written}
 use Rattle.tidyform.specs.Tidy.{word_bytes_at}
 use Rattle.tidy.proofs.writer.put_words.Given as goal
 
