@@ -18,10 +18,10 @@ const DOCUMENTS: [&str; 7] = [
     "include/toqhaymi.h",
     "examples/load.c",
 ];
-/// What runs these commands is not run by them.
-const RUNNERS: [&str; 2] = [".ci/run", "tests/run"];
+/// What runs these commands is not run by them, nor what proves again all that the gate proves.
+const RUNNERS: [&str; 5] = [".ci/run", "tests/run", "rt ci", "rt ci bigendian", "rt all check"];
 /// What tests/run has done to set up, by these words, where it has the prover.
-const SET_UP: [&str; 2] = ["rt staticlib toqhaymi", "rt check bench"];
+const SET_UP: &str = "tools/build";
 
 struct Given {
     at: String,
@@ -38,17 +38,28 @@ impl Given {
         RUNNERS.contains(&self.command.as_str())
     }
 
-    /// Whether it names a tool that is not there.
-    fn lacks(&self, without: &[&str]) -> bool {
+    /// Its words, each a row of letters, digits, '-', '/' and '.'.
+    fn words(&self) -> impl Iterator<Item = &str> {
         let is_part = |c: char| c.is_alphanumeric() || c == '-' || c == '/' || c == '.';
-        self.command.split(|c| !is_part(c)).any(|word| without.contains(&word))
+        self.command.split(move |c| !is_part(c))
     }
 
-    /// What the prover and the tests make belongs under the root's own target/.
+    /// Whether it names a tool that is not there.
+    fn lacks(&self, without: &[&str]) -> bool {
+        self.words().any(|word| without.contains(&word))
+    }
+
+    /// Whether it calls the prover, as in "(cd crates/sizes && rt check)".
+    fn proves(&self) -> bool {
+        self.words().any(|word| word == "rt")
+    }
+
+    /// What the prover and the tests make belongs under the root's own folders.
     fn folder<'a>(&self, folder: &'a Path) -> &'a Path {
-        match self.first_word() {
-            word if word == "rt" || word.starts_with("tests/") => Path::new("."),
-            _ => folder,
+        let is_ours = |name: &&str| self.first_word().starts_with(name);
+        match self.proves() || ["tests/", "tools/"].iter().any(is_ours) {
+            true => Path::new("."),
+            false => folder,
         }
     }
 
@@ -100,7 +111,7 @@ pub fn run(folder: &Path, without: &[&str]) -> Result<String, String> {
     let (mut count, mut left_out) = (0, 0);
     let mut proved: Vec<String> = match without.contains(&"rt") {
         true => Vec::new(),
-        false => SET_UP.map(String::from).to_vec(),
+        false => vec![SET_UP.to_string()],
     };
     for name in DOCUMENTS {
         for given in commands(name, &text(name)?) {
@@ -113,7 +124,7 @@ pub fn run(folder: &Path, without: &[&str]) -> Result<String, String> {
             }
             given.run(folder)?;
             count += 1;
-            if given.first_word() == "rt" {
+            if given.proves() {
                 proved.push(given.command);
             }
         }

@@ -7,7 +7,8 @@ use std::path::Path;
 const DOCUMENTS: [&str; 5] =
     ["README.md", "docs/FORMAT.md", "docs/DESIGN.md", "CONTRIBUTING.md", "CHANGES.md"];
 /// A name that begins with one of these, in backticks, is that of a file or folder.
-const FOLDERS: [&str; 6] = ["crates/", "docs/", "tests/", "examples/", "include/", ".ci/"];
+const FOLDERS: [&str; 7] =
+    ["crates/", "docs/", "tests/", "tools/", "examples/", "include/", ".ci/"];
 
 pub fn text(name: &str) -> Result<String, String> {
     std::fs::read_to_string(name).map_err(|error| format!("{name}: {error}"))
@@ -80,7 +81,7 @@ fn check_crates() -> Result<usize, String> {
     let crates: Vec<&str> = listed
         .lines()
         .filter_map(|line| line.split_once(':'))
-        .map(|(name, _)| name)
+        .filter_map(|(named, _)| named.split(' ').next())
         .filter(|name| !name.starts_with('#'))
         .collect();
     let readme = text("README.md")?;
