@@ -39,8 +39,8 @@ fn print_set_by(by: SetBy) {
 
 // A line for each tone: its number, its bits, its power, and what set its limit.
 fn print_table(table: &[u8], limits: &[u8], size: usize)
-    requires size_in_bounds { bytes_a_tone * size ≤ length table.now }
-    requires size_in_bounds_2 { limit_bytes_a_tone * size ≤ length limits.now }
+    requires table_room { bytes_a_tone * size ≤ length table.now }
+    requires limits_room { limit_bytes_a_tone * size ≤ length limits.now }
 {
     let mut tone: usize = 0;
     while tone < size {

@@ -117,7 +117,7 @@ fn put_line(
     out: &mut [u8],
 )
     requires indexed_low { IndexedLow s.now header places.now rested.now maps.now }
-    requires l_value { (l : Line) → said s.now ≡ accepted l → judged_with list.now (accepted l) ≡ accepted l }
+    requires judged { (l : Line) → said s.now ≡ accepted l → judged_with list.now (accepted l) ≡ accepted l }
     requires list_in_bounds { totals_bytes * budget_count list.now ≤ length out.old }
     ensures { (l : Line) → said s.now ≡ accepted l → out.new ≡ sets out.old 0 (totals_bytes_of list.now l) }
 {

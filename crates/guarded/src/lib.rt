@@ -102,7 +102,7 @@ fn load_line(
     table: &mut [u8],
 ) -> GuardedLoad
     requires indexed { Indexed s.now header places.now rested.now highs.now maps.now }
-    requires s_value { (l : Line) → said s.now ≡ accepted l → reading s.now ≡ accepted l }
+    requires judged { (l : Line) → said s.now ≡ accepted l → reading s.now ≡ accepted l }
     ensures answer { result ≡ guarded_answer (plain_bits (reading s.now)) (guarding (reading s.now) (length table.old)) }
     ensures bytes { table.new ≡ after_loading (guarding (reading s.now) (length table.old)) table.old }
 {

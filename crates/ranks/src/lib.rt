@@ -17,7 +17,7 @@ fn step_size(cost: u32, doublings: u8, rest: u32, bits: u8) -> u64
     requires steps_rise { StepsRise cost doublings rest }
     requires cost_bound { cost < 2 ^ 24 }
     requires bits_bound { doublings * suc bits ≤ 15 }
-    requires bits_bound_2 { bits < 255 }
+    requires bits_small { bits < 255 }
     ensures { result ≡ step_size cost doublings rest bits }
 {
     line::power_at(cost, doublings, rest, bits + 1) - line::power_at(cost, doublings, rest, bits)
@@ -92,8 +92,8 @@ pub fn fill_ranks(
 )
     requires arrays_in_range { ArraysInRange count (arrays limits.now costs.now doublings.now rests.now) }
     requires under { Under count (arrays limits.now costs.now doublings.now rests.now) bits.now }
-    requires none_from { NoneFrom count free.old }
-    requires none_from_2 { NoneFrom count held.old }
+    requires free_past { NoneFrom count free.old }
+    requires held_past { NoneFrom count held.old }
     ensures { Ranked count (arrays limits.now costs.now doublings.now rests.now) bits.now free.new held.new }
 {
     let mut i: usize = 0;

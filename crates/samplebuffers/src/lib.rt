@@ -22,7 +22,7 @@ pub fn wide(byte: u8) -> u64
 
 // A buffer for the text.
 pub fn text_buffer() -> [u8; TEXT_ROOM]
-    ensures text_room_value { text_room ≡ length result }
+    ensures sized { text_room ≡ length result }
     ensures bytes { (i : ℕ) → i < text_room → get_or result i 0 ≡ 0 }
 {
     [0; TEXT_ROOM]
@@ -30,7 +30,7 @@ pub fn text_buffer() -> [u8; TEXT_ROOM]
 
 // A buffer for a sheet or a table, every byte of it 0xa5.
 pub fn filled() -> [u8; ROOM]
-    ensures room_value { room ≡ length result }
+    ensures sized { room ≡ length result }
     ensures bytes { (i : ℕ) → i < room → get_or result i 0 ≡ fill }
 {
     [FILL; ROOM]

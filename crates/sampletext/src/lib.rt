@@ -47,7 +47,7 @@ fn digit(c: u8) -> u8
 // The decimal number at a place, of at most ten digits; 0 where none stands there.
 fn decimal(text: &[u8], from: usize) -> Number
     requires { from ≤ length text.now }
-    ensures from_le_next { (from ≤ result.next) × (result.next ≤ length text.now) }
+    ensures bounds { (from ≤ result.next) × (result.next ≤ length text.now) }
     ensures value { result.value ≡ spelled 0 (drop from text.now) }
 {
     let mut value: usize = 0;

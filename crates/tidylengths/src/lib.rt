@@ -77,9 +77,9 @@ pub fn tones_bytes(
     highs: &[u16; TONES],
 ) -> usize
     requires size_le_most_tones { size ≤ most_tones }
-    requires by_index { (i : ℕ) → Inside s.now (get_or places.now i 0) }
-    requires by_index_2 { (i : ℕ) → Inside s.now (get_or rests.now i 0) }
-    requires by_index_3 { (i : ℕ) → Inside s.now (get_or highs.now i 0) }
+    requires places_inside { (i : ℕ) → Inside s.now (get_or places.now i 0) }
+    requires rests_inside { (i : ℕ) → Inside s.now (get_or rests.now i 0) }
+    requires highs_inside { (i : ℕ) → Inside s.now (get_or highs.now i 0) }
     ensures { (result ≡ length (copies size s.now places.now rests.now highs.now)) × (result ≤ 3 * (levels_command + 2) * most_tones) }
 {
     let mut bytes: usize = 0;

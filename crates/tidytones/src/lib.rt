@@ -117,9 +117,9 @@ pub fn put_tones(
     at: usize,
 ) -> usize
     requires size_le_most_tones { size ≤ most_tones }
-    requires by_index { (i : ℕ) → Inside s.now (get_or places.now i 0) }
-    requires by_index_2 { (i : ℕ) → Inside s.now (get_or rests.now i 0) }
-    requires by_index_3 { (i : ℕ) → Inside s.now (get_or highs.now i 0) }
+    requires places_inside { (i : ℕ) → Inside s.now (get_or places.now i 0) }
+    requires rests_inside { (i : ℕ) → Inside s.now (get_or rests.now i 0) }
+    requires highs_inside { (i : ℕ) → Inside s.now (get_or highs.now i 0) }
     requires highs_in_bounds { at + length (copies size s.now places.now rests.now highs.now) ≤ length out.old }
     ensures place { result ≡ at + length (copies size s.now places.now rests.now highs.now) }
     ensures bytes { out.new ≡ sets out.old at (copies size s.now places.now rests.now highs.now) }

@@ -26,8 +26,8 @@ fill_ranks-requires c =
     record {
       arrays_in_range = L.in_range;
       under = stands-under (none-stands L (c.no_bits-running.ensures _ _ _)).table;
-      none_from = none;
-      none_from_2 = none;
+      free_past = none;
+      held_past = none;
     }
 
 pub loop-k-init : goal.loop-k-init

@@ -10,7 +10,7 @@ use Rattle.guarded.proofs.guarded.Goals as goal
 pub load_line-requires : goal.load_line-requires
 load_line-requires c =
     let x = read-line c.read_sheet-read.ensures c.in-Accepted.is in
-    record { indexed = x.index; s_value = λ l e. x.means ∙ ap accepted (only x.index l e) }
+    record { indexed = x.index; judged = λ l e. x.means ∙ ap accepted (only x.index l e) }
 
 pub returns-in-Refused : goal.returns-in-Refused
 unfolding guarding

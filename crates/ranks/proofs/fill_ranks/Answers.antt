@@ -5,7 +5,7 @@ use Rattle.ranks.proofs.Kept.{stored-none, stored_more, stored-all}
 use Rattle.ranks.proofs.fill_ranks.Goals as goal
 
 pub loop-i-init : goal.loop-i-init
-loop-i-init c = (omega arith, stored-none c.requires.none_from, stored-none c.requires.none_from_2)
+loop-i-init c = (omega arith, stored-none c.requires.free_past, stored-none c.requires.held_past)
 
 pub bounds-limits-i : goal.bounds-limits-i
 bounds-limits-i c = omega (arith, c.requires.arrays_in_range.count_high)

@@ -14,7 +14,7 @@ step_size-requires c = record {
   steps_rise = c.requires.steps_rise (omega arith);
   cost_bound = c.requires.cost_bound;
   bits_bound = le_trans (mul-le-mul_left c.args.doublings (omega arith)) c.requires.bits_bound;
-  bits_bound_2 = omega arith;
+  bits_small = omega arith;
 }
 
 small : (c : After-step_size) → c.step_size.result < 2 ^ 39

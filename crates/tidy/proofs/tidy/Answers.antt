@@ -34,9 +34,9 @@ tones_bytes-requires c =
     let x = (index p.In-Accepted).index in
     record {
       size_le_most_tones = size_high x (λ i. (c.type_inv.s i).fits);
-      by_index = tones-inside x;
-      by_index_2 = rests-inside x;
-      by_index_3 = highs-inside x;
+      places_inside = tones-inside x;
+      rests_inside = rests-inside x;
+      highs_inside = highs-inside x;
     }
 
 pub returns-then-out-bytes : goal.returns-then-out-bytes

@@ -14,16 +14,16 @@ loop-i-init c =
     (omega arith, omega (arith, length_none (copy_at a.s.now a.places.now a.rests.now a.highs.now)), omega arith)
 
 pub tone_bytes-requires : goal.tone_bytes-requires
-tone_bytes-requires c = c.requires.by_index c.loop-i.i
+tone_bytes-requires c = c.requires.places_inside c.loop-i.i
 
 pub rest_bytes-requires : goal.rest_bytes-requires
-rest_bytes-requires c = c.requires.by_index_2 c.loop-i.i
+rest_bytes-requires c = c.requires.rests_inside c.loop-i.i
 
 pub overflow_add-bytes : goal.overflow_add-bytes
 overflow_add-bytes c = omega (arith, c.tone_bytes.ensures.1, c.rest_bytes.ensures.1)
 
 pub high_bytes-requires : goal.high_bytes-requires
-high_bytes-requires c = c.requires.by_index_3 c.loop-i.i
+high_bytes-requires c = c.requires.highs_inside c.loop-i.i
 
 pub overflow_add-bytes-in-loop-i : goal.overflow_add-bytes-in-loop-i
 overflow_add-bytes-in-loop-i c = omega (arith, c.tone_bytes.ensures.1, c.rest_bytes.ensures.1, c.high_bytes.ensures.1)

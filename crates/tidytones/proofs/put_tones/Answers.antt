@@ -15,9 +15,9 @@ put_tone-place-requires c =
     let i = c.loop-i.i in
     let a = c.args in
     record {
-      own_inside = c.requires.by_index i;
-      rest_inside = c.requires.by_index_2 i;
-      high_inside = c.requires.by_index_3 i;
+      own_inside = c.requires.places_inside i;
+      rest_inside = c.requires.rests_inside i;
+      high_inside = c.requires.highs_inside i;
       bytes_in_bounds = written-room (copy_at a.s.now a.places.now a.rests.now a.highs.now) a.out.now a.at
           c.loop-i.invariant.1 c.loop-i-test.true c.requires.highs_in_bounds;
     }

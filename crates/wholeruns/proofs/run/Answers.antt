@@ -13,8 +13,8 @@ fill_ranks-requires c =
     record {
       arrays_in_range = R.in_range;
       under = stands-under R.stands.table;
-      none_from = none;
-      none_from_2 = none;
+      free_past = none;
+      held_past = none;
     }
 
 pub go_on-requires : goal.go_on-requires

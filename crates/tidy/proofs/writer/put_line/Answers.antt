@@ -38,9 +38,9 @@ put_tones-tones_end-requires c =
     let x = c.requires.indexed in
     record {
       size_le_most_tones = size_high x b;
-      by_index = tones-inside x;
-      by_index_2 = rests-inside x;
-      by_index_3 = highs-inside x;
+      places_inside = tones-inside x;
+      rests_inside = rests-inside x;
+      highs_inside = highs-inside x;
       highs_in_bounds = rw c.put_header-header_end.auto.out (omega (arith, c.put_header-header_end.ensures.place, room (goal.at.put_tones-tones_end-requires c).Start b));
     }
 

@@ -1,0 +1,10 @@
+-- `outside::of_guarded` meets its contract. Assumes nothing.
+use mathlib.Core.Path.{refl}
+use native.Mathlib.Omega.{arith}
+use Rattle.outside.proofs.of_guarded.Goals as goal
+
+pub returns-in-Refused : goal.returns-in-Refused
+returns-in-Refused c = rw c.in-Refused.is (c.of_refusal.ensures 3)
+
+pub returns-in-Totals : goal.returns-in-Totals
+returns-in-Totals c = rw c.in-Totals.is (record { returned = refl; few = omega arith; numbers = refl })
