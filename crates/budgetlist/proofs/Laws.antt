@@ -1,6 +1,6 @@
 -- What is wrong with a list of budgets, fact by fact; and what a caller has of a list that is not refused.
 -- Assumes nothing.
-use mathlib.Core.Bool.{Bool, true, false, ◌||◌, or-true, or-false}
+use mathlib.Core.Bool.{true, false, ◌||◌, or-true, or-false}
 use mathlib.Core.List.{List}
 use mathlib.Core.Option.{Option, none, some}
 use mathlib.Core.Path.{◌≡◌, refl, sym, ◌∙◌}

@@ -15,7 +15,7 @@ use Rattle.steps.specs.Tones.{Tones, step, Rising, Table, ◌!◌, no_bits, sum,
 use Rattle.steps.proofs.Sums.{sum-at-most, sum-eq}
 use Rattle.line.specs.declared.Limit.{Limit}
 use Rattle.line.specs.declared.Steps.{Steps}
-use Rattle.line.specs.Tone.{cost, doublings, limit}
+use Rattle.line.specs.Tone.{cost, limit}
 use Rattle.line.specs.Line.{Entry, undescribed, described, Line, gap_of, entry_of, entry_limit, entry_set_by, tones, EntryInRange, LineInRange, no_steps, entry_steps, steps_at}
 use Rattle.line.specs.Arrays.{Arrays, limit_at, cost_at, doublings_at, rest_at, step_size, StepsRise, ArraysInRange, Under, Describes, StandsFor, ArraysOf}
 use Rattle.line.proofs.Growth.{doublings-low, shift-at-most}

@@ -1,6 +1,5 @@
 -- `addresses::addressed` meets its contract. Assumes nothing.
 use mathlib.Core.Path.{sym}
-use borrow.Author.Rules.{rules}
 use Rattle.addresses.proofs.Widths.{none-addressed}
 use Rattle.addresses.proofs.addressed.Goals as goal
 

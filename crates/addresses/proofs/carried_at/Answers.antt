@@ -1,5 +1,4 @@
 -- `addresses::carried_at` meets its contract. Assumes nothing.
-use borrow.Author.Rules.{rules}
 use Rattle.addresses.proofs.carried_at.Goals as goal
 
 pub returns : goal.returns

@@ -1,7 +1,6 @@
 -- `addresses::tone_number` meets its contract. Assumes nothing.
 use mathlib.Core.Path.{sym, ◌∙◌}
 use native.Mathlib.Omega.{arith}
-use borrow.Author.Rules.{rules}
 use Rattle.bigendian.proofs.Numbers.{number-one}
 use Rattle.addresses.proofs.Widths.{short-width, twin-width, number-two}
 use Rattle.addresses.proofs.tone_number.Goals as goal

@@ -1,7 +1,6 @@
 -- `answers::of_refit` meets its contract. Assumes nothing.
 use mathlib.Core.Path.{refl}
 use native.Mathlib.Omega.{arith}
-use borrow.Author.Rules.{rules}
 use Rattle.answers.proofs.of_refit.Goals as goal
 
 pub returns-in-Refused : goal.returns-in-Refused

@@ -1,6 +1,5 @@
 -- `answers::of_refusal` meets its contract. Assumes nothing.
 use mathlib.Core.Path.{refl}
-use borrow.Author.Rules.{rules}
 use Rattle.answers.proofs.Stored.{says-refusal}
 use Rattle.answers.proofs.of_refusal.Goals as goal
 

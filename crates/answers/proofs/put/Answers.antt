@@ -1,9 +1,7 @@
 -- `answers::put` meets its contract. The loop's invariant: of the numbers to be written the first `i` are stored. The measure is how many are left. Assumes nothing.
 use mathlib.Core.Path.{refl}
-use Prim.Native.Nat.{◌-◌}
 use native.Mathlib.Omega.{arith}
-use borrow.Author.Rules.{rules}
-use Rattle.answers.proofs.Stored.{Storing, none-stored, one-stored, all-stored}
+use Rattle.answers.proofs.Stored.{none-stored, one-stored, all-stored}
 use Rattle.answers.proofs.put.Goals as goal
 
 pub loop-i-init : goal.loop-i-init

@@ -1,5 +1,4 @@
 -- `answers::without_room` meets its contract. Assumes nothing.
-use borrow.Author.Rules.{rules}
 use Rattle.answers.proofs.Stored.{without-room}
 use Rattle.answers.proofs.without_room.Goals as goal
 

@@ -1,9 +1,7 @@
 -- `arrays::fill_arrays` meets its contract. Between the turns the arrays hold the tones below i. Assumes nothing.
-use Prim.Native.Nat.{◌-◌}
 use native.Mathlib.Omega.{arith}
-use borrow.Author.Rules.{rules}
 use Rattle.arrays.proofs.Indexed.{size_high, tone-in-range}
-use Rattle.arrays.proofs.Filling.{FillingOf, filling-starts, filled_next, filled-line}
+use Rattle.arrays.proofs.Filling.{filling-starts, filled_next, filled-line}
 use Rattle.arrays.proofs.fill_arrays.Goals as goal
 
 pub loop-i-init : goal.loop-i-init

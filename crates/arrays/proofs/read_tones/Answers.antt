@@ -2,7 +2,6 @@
 use Rattle.line.specs.Arrays.{arrays}
 use Rattle.sheet.proofs.Uses.{read-line, refused-is, at_low}
 use Rattle.arrays.proofs.Uses.{tones-held, tones-refused}
-use borrow.Author.Rules.{rules}
 use Rattle.arrays.proofs.read_tones.Goals as goal
 
 pub fill_arrays-requires : goal.fill_arrays-requires

@@ -1,5 +1,4 @@
 -- `arrays::steps_at` meets its contract. Assumes nothing.
-use borrow.Author.Rules.{rules}
 use native.Mathlib.Omega.{arith}
 use Rattle.places.proofs.Entries.{no-entry, entry-there}
 use Rattle.arrays.proofs.steps_at.Goals as goal

@@ -1,14 +1,8 @@
 -- `bigendian::number_at` meets its contract. Between the turns n is the number that the bytes read so far spell. Assumes nothing.
-use mathlib.Core.Path.{◌≡◌, refl, sym, ◌∙◌}
+use mathlib.Core.Path.{◌≡◌}
 use Prim.Native.Nat.{◌+◌, ◌-◌, ◌^◌, ◌≤◌, ◌<◌}
-use native.Mathlib.Nat.{one-le-pow}
-use native.Mathlib.Numerals.{add-one}
-use native.Mathlib.Omega.{arith}
-use borrow.Author.Rules.{rules}
-use borrow.Author.Tests.{leb-true, le-ltb, lt-ltb, not-true, not-false}
-use lib.ListN.{length, get_or}
-use Rattle.bigendian.specs.Number.{number, number_at}
-use Rattle.bigendian.proofs.Numbers.{next-lt, next_fits, number-next, number-there}
+use lib.ListN.{length}
+use Rattle.bigendian.specs.Number.{number}
 use Rattle.bigendian.proofs.number_at.Given as goal
 
 abbrev pub invariant-loop-i : goal.invariant-loop-i

@@ -1,11 +1,8 @@
 -- `bigendian::put_number` meets its contract. Between the turns the bytes still to be written make what is there into the whole. Assumes nothing.
 use mathlib.Core.Path.{◌≡◌, refl, sym, ◌∙◌}
-use Prim.Native.Nat.{◌+◌, ◌≤◌}
 use native.Mathlib.Omega.{arith}
-use borrow.Author.Rules.{rules}
-use borrow.Author.Tests.{leb-true, not-true, not-false}
-use lib.ListN.{length, length-set}
-use lib.Seq.{sets}
+use borrow.Author.Tests.{leb-true}
+use lib.ListN.{length-set}
 use Rattle.bigendian.specs.Number.{bytes, with_number}
 use Rattle.bigendian.proofs.Numbers.{bytes_next, number_fits}
 use Rattle.bigendian.proofs.put_number.Goals as goal

@@ -1,7 +1,6 @@
 -- `budgetlist::budget_at` meets its contract. Assumes nothing.
 use mathlib.Core.Path.{◌∙◌}
 use native.Mathlib.Omega.{arith}
-use borrow.Author.Rules.{rules}
 use Rattle.bigendian.proofs.Numbers.{number-there}
 use Rattle.budgetlist.proofs.budget_at.Goals as goal
 

@@ -1,14 +1,9 @@
 -- `budgetlist::first_fault` meets its contract. Between the turns no entry below k is wrong, and `last` is the budget before k. Assumes nothing.
 use mathlib.Core.Bool.{false}
-use mathlib.Core.Path.{◌≡◌, refl, sym}
+use mathlib.Core.Path.{◌≡◌}
 use Prim.Native.Nat.{ℕ, ◌-◌, ◌≤◌, ◌<◌}
-use native.Mathlib.Numerals.{add-one}
-use native.Mathlib.Omega.{arith}
-use borrow.Author.Count.{below_none, below_more}
-use borrow.Author.Rules.{rules}
-use Rattle.lists.proofs.First.{none_first, first-at}
 use Rattle.budgetlist.specs.Budgets.{is_fault}
-use Rattle.budgetlist.proofs.Laws.{last_of, too_large, below_last, no-fault}
+use Rattle.budgetlist.proofs.Laws.{last_of}
 use Rattle.budgetlist.proofs.first_fault.Given as goal
 
 abbrev pub invariant-loop-k : goal.invariant-loop-k

@@ -1,5 +1,4 @@
 -- `budgets::adding_pass` meets its contract. Before each budget the pass has come as far as the one before it. Assumes nothing.
-use Prim.Native.Nat.{◌-◌}
 use native.Mathlib.Omega.{arith}
 use lib.ListN.{replicate, get_or-replicate}
 use Rattle.sizes.specs.Sizes.{most_tones}

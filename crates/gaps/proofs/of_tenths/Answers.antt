@@ -1,5 +1,4 @@
 -- `gaps::of_tenths` meets its contract. Assumes nothing.
-use borrow.Author.Rules.{rules}
 use Rattle.gaps.proofs.Rule.{entry-is}
 use Rattle.gaps.proofs.of_tenths.Goals as goal
 

@@ -1,6 +1,5 @@
 -- `gaps::parts` meets its contract: the table's rule is a test of its entries, which is computed. Assumes nothing.
 use native.Mathlib.Omega.{arith}
-use borrow.Author.Rules.{rules}
 use borrow.Author.Tests.{lt-ltb, le-ltb}
 use Rattle.gaps.proofs.Rule.{right, all_right, table_is}
 use Rattle.gaps.proofs.parts.Goals as goal

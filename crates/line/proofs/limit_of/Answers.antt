@@ -1,6 +1,6 @@
 -- `line::limit_of` meets its contract. Assumes nothing.
 use mathlib.Core.Path.{◌≡◌, refl}
-use Prim.Native.Nat.{◌-◌, ◌*◌}
+use Prim.Native.Nat.{◌*◌}
 use native.Mathlib.Omega.{arith}
 use Rattle.line.proofs.Tries.{Searched, shift-at-most-2, one_more, next, next_fits, mask-ends, cap-ends}
 use Rattle.line.proofs.limit_of.Goals.{After-doublings-shift}

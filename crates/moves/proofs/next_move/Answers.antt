@@ -1,5 +1,4 @@
 -- `moves::next_move` meets its contract. Assumes nothing.
-use borrow.Author.Rules.{rules}
 use Rattle.steps.specs.Runs.{add_step}
 use Rattle.moves.proofs.Named.{adds}
 use Rattle.moves.proofs.next_move.Goals as goal

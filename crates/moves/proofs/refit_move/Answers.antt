@@ -1,6 +1,5 @@
 -- `moves::refit_move` meets its contract. Assumes nothing.
 use mathlib.Core.Path.{refl}
-use borrow.Author.Rules.{rules}
 use Rattle.moves.proofs.Named.{adds, held_at, only-takes, exchanges, gives_up, takes}
 use Rattle.moves.proofs.refit_move.Goals as goal
 

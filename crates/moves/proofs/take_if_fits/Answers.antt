@@ -2,7 +2,6 @@
 use mathlib.Core.Path.{◌≡◌, ap}
 use Prim.Native.Nat.{◌/◌}
 use native.Mathlib.Omega.{arith}
-use borrow.Author.Rules.{rules}
 use Rattle.steps.specs.Runs.{take_if_fits}
 use Rattle.ranks.specs.Ranks.{rank_base, no_step}
 use Rattle.moves.specs.declared.Step.{Step}

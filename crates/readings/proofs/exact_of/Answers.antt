@@ -1,7 +1,6 @@
 -- `readings::exact_of` meets its contract. Assumes nothing.
 use native.Mathlib.Omega.{arith}
 use Rattle.readings.proofs.Patterns.{subnormal-value, normal-value}
-use borrow.Author.Rules.{rules}
 use Rattle.readings.proofs.exact_of.Goals as goal
 
 pub returns-then-field-eq0 : goal.returns-then-field-eq0

@@ -5,7 +5,6 @@ use lib.Ieee.{binary32, nan_bits}
 use lib.Ieee.Bits.{nan_bits_is}
 use Rattle.readings.specs.Reading.{is_usable, float_of}
 use Rattle.readings.proofs.Readings.{float_is, usable-not-nan}
-use borrow.Author.Rules.{rules}
 use Rattle.readings.proofs.float_of.Goals.{Then-is_usable}
 use Rattle.readings.proofs.float_of.Goals as goal
 

@@ -1,5 +1,4 @@
 -- `readings::is_over` meets its contract. Assumes nothing.
-use borrow.Author.Rules.{rules}
 use Rattle.readings.proofs.Readings.{over-is}
 use Rattle.readings.proofs.is_over.Goals as goal
 

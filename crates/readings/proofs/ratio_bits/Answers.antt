@@ -3,7 +3,6 @@ use mathlib.Core.Path.{sym, ap}
 use lib.Ieee.{binary32, to_bits}
 use Rattle.readings.specs.Reading.{ratio}
 use Rattle.readings.proofs.Ratio.{ratio-not-nan}
-use borrow.Author.Rules.{rules}
 use Rattle.readings.proofs.ratio_bits.Goals as goal
 
 pub float_to_bits-result : goal.float_to_bits-result

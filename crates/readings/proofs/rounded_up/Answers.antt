@@ -5,7 +5,6 @@ use Prim.Native.Nat.{◌*◌, ◌%◌, ◌^◌}
 use native.Mathlib.Omega.{arith}
 use lib.Pow.{pow_pos, pow_mono, shl_exact}
 use Rattle.readings.proofs.Shifts.{left_is, right_is, unit-is}
-use borrow.Author.Rules.{rules}
 use Rattle.readings.proofs.rounded_up.Goals.{After-smaller-shift}
 use Rattle.readings.proofs.rounded_up.Goals as goal
 

@@ -1,9 +1,7 @@
 -- `rests::rest_total` meets its contract: between its turns the rests of the tones below i are added. Assumes nothing.
 use mathlib.Core.Path.{◌≡◌, refl, ap, ◌∙◌}
-use Prim.Native.Nat.{◌-◌, ◌*◌, ◌^◌, ◌≤◌}
 use native.Mathlib.Numerals.{add-one}
 use native.Mathlib.Omega.{arith}
-use borrow.Author.Rules.{rules}
 use Rattle.steps.specs.Tones.{sum}
 use Rattle.rests.specs.Rests.{rests_sent}
 use Rattle.rests.proofs.rest_total.Goals as goal

@@ -1,7 +1,6 @@
 -- `rests::sent_rest` meets its contract. Assumes nothing.
-use mathlib.Core.Path.{sym, ◌∙◌}
+use mathlib.Core.Path.{sym}
 use native.Mathlib.Omega.{arith}
-use borrow.Author.Rules.{rules}
 use Rattle.rests.proofs.Sent.{none-sent}
 use Rattle.rests.proofs.sent_rest.Goals as goal
 

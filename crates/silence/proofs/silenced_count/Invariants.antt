@@ -1,5 +1,5 @@
 use mathlib.Core.Path.{◌≡◌}
-use Prim.Native.Nat.{ℕ, ◌*◌, ◌-◌, ◌≤◌}
+use Prim.Native.Nat.{◌*◌, ◌-◌, ◌≤◌}
 use Rattle.sizes.specs.Sizes.{most_words}
 use Rattle.silence.specs.Map.{silenced, count}
 use Rattle.silence.proofs.silenced_count.Given as goal
