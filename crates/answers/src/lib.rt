@@ -124,7 +124,7 @@ pub fn of_tidy(tidied: Tidied) -> Reply
 // Writes the answers of a call to the start of a buffer, and hands back what the call returns.
 pub fn put(answer: Reply, buffer: &mut [u8]) -> u64
     requires count_bound { answer.count ≤ 3 }
-    requires answer_room_in_bounds { answer_room ≤ length buffer.old }
+    requires room_enough { answer_room ≤ length buffer.old }
     ensures returned { result ≡ answer.returned }
     ensures bytes { buffer.new ≡ answers_in (written answer) buffer.old }
 {

@@ -118,7 +118,7 @@ fn put_line(
 )
     requires indexed_low { IndexedLow s.now header places.now rested.now maps.now }
     requires judged { (l : Line) → said s.now ≡ accepted l → judged_with list.now (accepted l) ≡ accepted l }
-    requires list_in_bounds { totals_bytes * budget_count list.now ≤ length out.old }
+    requires bytes_in_bounds { totals_bytes * budget_count list.now ≤ length out.old }
     ensures { (l : Line) → said s.now ≡ accepted l → out.new ≡ sets out.old 0 (totals_bytes_of list.now l) }
 {
     let mut limits: [u8; TONES] = [0; TONES];

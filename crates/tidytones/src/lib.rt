@@ -120,7 +120,7 @@ pub fn put_tones(
     requires places_inside { (i : ℕ) → Inside s.now (get_or places.now i 0) }
     requires rests_inside { (i : ℕ) → Inside s.now (get_or rests.now i 0) }
     requires highs_inside { (i : ℕ) → Inside s.now (get_or highs.now i 0) }
-    requires highs_in_bounds { at + length (copies size s.now places.now rests.now highs.now) ≤ length out.old }
+    requires bytes_in_bounds { at + length (copies size s.now places.now rests.now highs.now) ≤ length out.old }
     ensures place { result ≡ at + length (copies size s.now places.now rests.now highs.now) }
     ensures bytes { out.new ≡ sets out.old at (copies size s.now places.now rests.now highs.now) }
 {

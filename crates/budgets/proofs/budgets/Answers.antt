@@ -22,7 +22,7 @@ pub put_line-requires : goal.put_line-requires
 put_line-requires c =
     let x = index (goal.at.put_line-requires c).In-Accepted in
     let t = told-written _ x.line _ (sym c.in-Written.is ∙ c.judge-judged.ensures x.line _ _ (size_is x) x.indexes) in
-    record { indexed_low = at_low x; judged = λ l e. only-line x e _ t.judged; list_in_bounds = t.room_enough }
+    record { indexed_low = at_low x; judged = λ l e. only-line x e _ t.judged; bytes_in_bounds = t.room_enough }
 
 pub returns-in-Refused : goal.returns-in-Refused
 unfolding budgeting

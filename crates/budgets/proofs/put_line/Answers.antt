@@ -5,7 +5,7 @@ use Rattle.budgets.proofs.put_line.Goals as goal
 pub adding_pass-requires : goal.adding_pass-requires
 adding_pass-requires c =
     let p = c.requires in
-    line-passable p.indexed_low.index _ (p.judged _ p.indexed_low.index.means) c.fill_arrays.ensures _ p.list_in_bounds
+    line-passable p.indexed_low.index _ (p.judged _ p.indexed_low.index.means) c.fill_arrays.ensures _ p.bytes_in_bounds
 
 pub returns : goal.returns
 returns c =

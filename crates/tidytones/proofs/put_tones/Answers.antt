@@ -19,7 +19,7 @@ put_tone-place-requires c =
       rest_inside = c.requires.rests_inside i;
       high_inside = c.requires.highs_inside i;
       bytes_in_bounds = written-room (copy_at a.s.now a.places.now a.rests.now a.highs.now) a.out.now a.at
-          c.loop-i.invariant.1 c.loop-i-test.true c.requires.highs_in_bounds;
+          c.loop-i.invariant.1 c.loop-i-test.true c.requires.bytes_in_bounds;
     }
 
 pub loop-i-preserved : goal.loop-i-preserved

@@ -41,7 +41,7 @@ put_tones-tones_end-requires c =
       places_inside = tones-inside x;
       rests_inside = rests-inside x;
       highs_inside = highs-inside x;
-      highs_in_bounds = rw c.put_header-header_end.auto.out (omega (arith, c.put_header-header_end.ensures.place, room (goal.at.put_tones-tones_end-requires c).Start b));
+      bytes_in_bounds = rw c.put_header-header_end.auto.out (omega (arith, c.put_header-header_end.ensures.place, room (goal.at.put_tones-tones_end-requires c).Start b));
     }
 
 pub put_words-words_end-requires : goal.put_words-words_end-requires
