@@ -12,7 +12,7 @@ pub const TWIN: u8 = 0x10;
 // The base of a byte.
 const BYTE: u16 = 256;
 
-// The byte at a place, or 0 past the end.
+// The byte at a place, or 0 past the end. Not an Option: every caller reads past the end as 0, as the definitions do.
 pub fn byte_at(s: &[u8], at: usize) -> u8
     ensures { result ≡ get_or s.now at 0 }
 {

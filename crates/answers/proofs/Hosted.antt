@@ -1,17 +1,17 @@
 -- What a host call returns and leaves, by the room for its answers.
 -- Assumes nothing.
-use mathlib.Core.List.{List}
-use mathlib.Core.Path.{◌≡◌, refl, sym}
-use Prim.Native.Nat.{ℕ, ◌≤◌, ◌<◌}
-use borrow.Author.Tests.{lt-ltb, le-ltb}
-use lib.ListN.{length}
+use Rattle.std.proofs.Common.{List, ◌≡◌, refl, sym, ap, ◌∙◌, ℕ, ◌≤◌, ◌<◌, length, lt-ltb, le-ltb, Result, Ok, Err}
 use Rattle.sizes.specs.Sizes.{answer_room}
+use Rattle.refusals.specs.declared.Refusal.{Refusal}
 use Rattle.refusals.specs.declared.Refusal.TheVariants.{DestinationTooSmall}
-use Rattle.refusals.specs.Refusals.{Outcome}
+use Rattle.refusals.specs.Refusals.{Outcome, success, refusal}
 use Rattle.sheet.specs.Reading.{Meaning, accepted, refused, reading}
-use Rattle.answers.specs.declared.Reply.{Reply}
-use Rattle.answers.specs.Answers.{code, answered, without_room, hosted, hosted_buffer, Says}
-use Rattle.answers.proofs.Stored.{Puts, Ends, ends, untouched}
+use Rattle.answers.specs.Answers.{code, answers_in, answered, replied, without_room, hosted, hosted_buffer}
+use Rattle.answers.proofs.Stored.{none-shown, untouched}
+
+-- what a call has to show that ends in an outcome: of its result, and of the answer buffer
+abbrev pub Ends : Outcome → (old after : List ℕ) → (result : ℕ) → Type 0
+Ends o old after result = (result ≡ code o) × (after ≡ answered o old)
 
 -- what a call has to show of its result and of the answer buffer
 abbrev pub Answers : (s : List ℕ) → Outcome → (answer after : List ℕ) → (result : ℕ) → Type 0
@@ -36,14 +36,21 @@ module _ (s : List ℕ) (o : Outcome) (answer : List ℕ) {result : ℕ} (h : le
   pub short-writes : (old then : List ℕ) → Writes s o old then old answer answer result
   short-writes old then = rw (lt-ltb (length answer) answer_room h) (e, (refl, kept (reading s) answer))
 
--- ---- room for the answers: the call's own outcome o, which the answer a says as p
+-- ---- room for the answers: what `reply` makes of the call's result
 
-module _ (s : List ℕ) {p o : Outcome} {a : Reply} (answer : List ℕ) {after : List ℕ} {result : ℕ} (h : answer_room ≤ length answer) (n : p ≡ o) (S : Says a p)
-    (w : Puts a answer after result) where
-  pub long-answers : Answers s o answer after result
-  long-answers = rw (le-ltb (length answer) answer_room h, ← n) (ends S answer w)
+-- an outcome by cases on a result is told as `reply` tells the result, however many answers its refusals have
+module _ {A : Type 0} (numbers : A → List ℕ) (count : ℕ) (outcome : Result A Refusal → Outcome) (done : (a : A) → outcome (Ok a) ≡ success (numbers a))
+    (turned : (q : Refusal) → outcome (Err q) ≡ refusal count q) where
+  pub ends : (r : Result A Refusal) {o : Outcome} → outcome r ≡ o → (old : List ℕ) {after : List ℕ} {result : ℕ} → Ends (replied numbers r) old after result → Ends o old after result
+  ends (Ok a) e old p = rw (← e, done a) p
+  ends (Err q) e old p =
+      rw (← e, turned q) (p.0, p.1 ∙ ap (λ xs. answers_in xs old) (none-shown 0 q ∙ sym (none-shown count q)))
 
-  pub long-writes : (old : List ℕ) {then new : List ℕ} → new ≡ then → Writes s o old then new answer after result
-  long-writes old New-is =
-      let a = ends S answer w in
-      rw (le-ltb (length answer) answer_room h, ← n) (a.0, (New-is, a.1))
+  module _ (s : List ℕ) {r : Result A Refusal} {o : Outcome} (answer : List ℕ) {after : List ℕ} {result : ℕ} (h : answer_room ≤ length answer) (n : outcome r ≡ o)
+      (p : Ends (replied numbers r) answer after result) where
+    pub long-answers : Answers s o answer after result
+    long-answers = rw (le-ltb (length answer) answer_room h) (ends r n answer p)
+
+    pub long-writes : (old : List ℕ) {then new : List ℕ} → new ≡ then → Writes s o old then new answer after result
+    long-writes old New-is =
+        let a = ends r n answer p in rw (le-ltb (length answer) answer_room h) (a.0, (New-is, a.1))

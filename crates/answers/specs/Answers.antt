@@ -1,13 +1,13 @@
 -- What a host call returns and writes. Document 01, 'The line sheet': 'There the returned 64-bit number is the refusal number × 2^32 plus
 -- the place. On success the other answers .. fill the start of an answer buffer of at least 24 bytes; a refusal does not touch it.'
 -- Assumes nothing.
-use Rattle.std.specs.Prelude.{cond, List, [], ◌∷◌, ◌++◌, ◌≡◌, ℕ, ◌+◌, ◌*◌, ◌^◌, ◌≤◌, eqb, ltb, length, take, drop}
+use Rattle.std.specs.Prelude.{cond, List, [], ◌∷◌, ◌++◌, ℕ, ◌+◌, ◌*◌, ◌^◌, eqb, ltb, length, drop, Result, Ok, Err}
 use Rattle.sizes.specs.Sizes.{answer_room}
 use Rattle.bigendian.specs.Number.{bytes}
 use Rattle.refusals.specs.declared.Refusal.TheVariants.{DestinationTooSmall}
-use Rattle.refusals.specs.Refusals.{Outcome, refusal}
+use Rattle.refusals.specs.declared.Refusal.{Refusal}
+use Rattle.refusals.specs.Refusals.{Outcome, success, refusal}
 use Rattle.sheet.specs.Reading.{Meaning, accepted, refused, reading}
-use Rattle.answers.specs.declared.Reply.{Reply}
 
 abbrev pub code : Outcome → ℕ
 code o = o.number * 2 ^ 32 + o.place
@@ -29,15 +29,10 @@ shown o = cond (eqb o.number 0) o.answers []
 abbrev pub answered : Outcome → (old : List ℕ) → List ℕ
 answered o old = answers_in (shown o) old
 
--- what the code's answer writes: so many of its three numbers
-abbrev pub written : Reply → List ℕ
-written a = take a.count (a.first ∷ a.second ∷ a.third ∷ [])
-
--- The code's answer says an outcome: it returns its code and writes its answers.
-pub record Says (a : Reply) (o : Outcome) : Type 0 where
-  pub returned : a.returned ≡ code o
-  pub few : a.count ≤ 3
-  pub numbers : written a ≡ shown o
+-- what a call's result comes to, by the numbers of what it answers; a refusal writes no answers, however many the call has
+abbrev pub replied : {A : Type 0} → (numbers : A → List ℕ) → Result A Refusal → Outcome
+replied numbers (Ok a) = success (numbers a)
+replied numbers (Err r) = refusal 0 r
 
 -- refusal 8: 'in a host call, an answer buffer under 24 bytes', after those of the sheet and before any other
 abbrev pub without_room : Meaning → Outcome

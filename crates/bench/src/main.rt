@@ -6,9 +6,7 @@ ghost use Rattle.std.specs.Prelude.{◌*◌, ◌≤◌, length};
 ghost use Rattle.sizes.specs.Sizes.{most_tones, bytes_a_tone, limit_bytes_a_tone};
 
 use line::SetBy;
-use loadings::Loaded;
-use refusals::{Refusal, refusal_number, refusal_place};
-use sheet::Checked;
+use refusals::Refusal;
 use sizes::{LIMIT_BYTES, TONE_BYTES, TONES};
 
 // The table of the most tones, in bytes, and their limits.
@@ -42,8 +40,7 @@ fn print_table(table: &[u8], limits: &[u8], size: usize)
     requires table_room { bytes_a_tone * size ≤ length table.now }
     requires limits_room { limit_bytes_a_tone * size ≤ length limits.now }
 {
-    let mut tone: usize = 0;
-    while tone < size {
+    for tone in 0..size {
         io::print_decimal(1, tone as u64);
         print_two(
             bigendian::number_at(table, TONE_BYTES * tone, 1),
@@ -51,13 +48,12 @@ fn print_table(table: &[u8], limits: &[u8], size: usize)
         );
         print_set_by(limits::set_by(limits[LIMIT_BYTES * tone + 1]));
         print(b"\n");
-        tone += 1;
     }
 }
 
 fn print_refusal(why: Refusal) {
     print(b"refused");
-    print_two(refusal_number(why) as u64, refusal_place(why) as u64);
+    print_two(why.number() as u64, why.place() as u64);
     print(b"\n");
 }
 
@@ -67,25 +63,23 @@ fn show_loading(sheet: &[u8], size: usize)
 {
     let mut table = [0u8; TABLE_BYTES];
     let mut limits = [0u8; LIMITS_BYTES];
-    let loaded = loader::load_most(sheet, &mut table);
-    match loaded {
-        Loaded::Refused(why) => print_refusal(why),
-        Loaded::Totals(bits, power) => {
+    match loader::load_most(sheet, &mut table) {
+        Err(why) => print_refusal(why),
+        Ok(totals) => {
             // The loading was accepted and the buffer has room, so the limits are written.
-            loader::limits(sheet, &mut limits);
+            let _ = loader::limits(sheet, &mut limits);
             print_table(&table, &limits, size);
             print(b"total");
-            print_two(bits as u64, power);
+            print_two(totals.bits as u64, totals.power);
             print(b"\n");
         }
     }
 }
 
 fn show(sheet: &[u8]) {
-    let checked = loader::check(sheet);
-    match checked {
-        Checked::Refused(why) => print_refusal(why),
-        Checked::Counts(size, _, _) => show_loading(sheet, size as usize),
+    match loader::check(sheet) {
+        Err(why) => print_refusal(why),
+        Ok(counts) => show_loading(sheet, counts.size as usize),
     }
 }
 

@@ -2,13 +2,13 @@
 -- Assumes nothing.
 use mathlib.Core.Bool.{true, false, ◌||◌, or-true, or-false}
 use mathlib.Core.List.{List}
-use mathlib.Core.Option.{Option, none, some}
 use mathlib.Core.Path.{◌≡◌, refl, sym, ◌∙◌}
 use Prim.Native.Nat.{ℕ, zero, suc, ◌*◌, ◌%◌, ◌≤◌, ◌<◌}
 use native.Mathlib.Omega.{arith}
 use borrow.Author.Tests.{ltb-true, ltb-false, leb-true, eqb-true, lt-ltb, le-ltb, le-leb, eq-eqb}
 use lib.Dec.{ltb}
 use lib.ListN.{length}
+use Rattle.std.specs.Prelude.{Option, Some, None, Ok, Err}
 use Rattle.sizes.specs.Sizes.{most_power, most_budgets, budget_bytes}
 use Rattle.lists.specs.First.{first}
 use Rattle.lists.proofs.First.{First, first-is}
@@ -16,20 +16,6 @@ use Rattle.lists.proofs.Tests.{by-test, both-pass, neither-passes}
 use Rattle.refusals.specs.declared.Refusal.{Refusal}
 use Rattle.refusals.specs.declared.Refusal.TheVariants.{OperandOutOfRange}
 use Rattle.budgetlist.specs.Budgets.{budget_of, budget_count, is_length, is_fault, at_entry, list_refusal, list_answer}
-use Rattle.budgetlist.specs.declared.Listed.{Listed}
-use Rattle.budgetlist.specs.declared.Listed.TheVariants.{Budgets, Refused}
-
--- what is there is not none
-never : {P : Type 0} {q : Refusal} → some q ≡ none → P
-never e =
-    let z : ◌≡◌ {A = ℕ} 0 1 = cc in
-    absurd (omega arith)
-
--- a refusal is no number of budgets
-no_answer : {P : Type 0} {q : Refusal} {n : ℕ} → Refused q ≡ Budgets n → P
-no_answer e =
-    let z : ◌≡◌ {A = ℕ} 0 1 = cc in
-    absurd (omega arith)
 
 module _ (list : List ℕ) where
   -- the budget before entry k; 0 before the first
@@ -49,16 +35,13 @@ module _ (list : List ℕ) where
     pub below_last : budget_of list k < last_of k → is_fault list k ≡ true
     below_last h = rw (fault-is k, lt-ltb _ _ h) (or-true (ltb most_power (budget_of list k)))
 
-    pub no-fault : budget_of list k ≤ most_power → last_of k ≤ budget_of list k → is_fault list k ≡ false
-    no-fault h g = rw (fault-is k, le-ltb _ _ h, le-ltb _ _ g)
-
     right-entry : is_fault list k ≡ false → (budget_of list k ≤ most_power) × (last_of k ≤ budget_of list k)
     right-entry e = let h = neither-passes _ _ (sym (fault-is k) ∙ e) in (ltb-false _ _ h.0, ltb-false _ _ h.1)
 
   -- an entry that is found wrong is one of them
-  pub found_inside : {k : ℕ} → first (is_fault list) (budget_count list) ≡ some k → k < budget_count list
+  pub found_inside : {k : ℕ} → first (is_fault list) (budget_count list) ≡ Some k → k < budget_count list
   found_inside {k} e =
-      let F : First (is_fault list) (budget_count list) (some k) = rw e at (first-is (is_fault list) (budget_count list)) in
+      let F : First (is_fault list) (budget_count list) (Some k) = rw e at (first-is (is_fault list) (budget_count list)) in
       F.0
 
   -- a length that is not 0, has no part of an entry, and not too many entries
@@ -77,9 +60,9 @@ module _ (list : List ℕ) where
       record { not_empty = ltb-true _ _ h.0; no_part = eqb-true _ _ g.0; not_long = leb-true _ _ g.1 }
 
   -- another length is refused at place 0
-  pub wrong-length : ¬ RightLength → list_refusal list ≡ some (OperandOutOfRange 0)
+  pub wrong-length : ¬ RightLength → list_refusal list ≡ Some (OperandOutOfRange 0)
   unfolding list_refusal
-  wrong-length h = by-test (λ (o : Option Refusal). o ≡ some (OperandOutOfRange 0)) (is_length list) (λ e. absurd (h (right-length e))) (λ e. refl)
+  wrong-length h = by-test (λ (o : Option Refusal). o ≡ Some (OperandOutOfRange 0)) (is_length list) (λ e. absurd (h (right-length e))) (λ e. refl)
 
   -- with a right length it goes by the entries
   pub by_entries : RightLength → (o : Option ℕ) → first (is_fault list) (budget_count list) ≡ o → list_refusal list ≡ at_entry o
@@ -94,35 +77,34 @@ pub record RightList (list : List ℕ) : Type 0 where
   pub high : (k : ℕ) → k < budget_count list → budget_of list k ≤ most_power
   pub no_fall : (k : ℕ) → suc k < budget_count list → budget_of list k ≤ budget_of list (suc k)
 
-pub right-list : (list : List ℕ) → list_refusal list ≡ none → RightList list
+pub right-list : (list : List ℕ) → list_refusal list ≡ None → RightList list
 unfolding list_refusal
 right-list list =
-    by-test (λ (o : Option Refusal). o ≡ none → RightList list) (is_length list)
+    by-test (λ (o : Option Refusal). o ≡ None → RightList list) (is_length list)
     (λ is. by (right-length list is) (first (is_fault list) (budget_count list)) (first-is (is_fault list) (budget_count list)))
-    (λ is e. never e)
+    (λ is e. absurd (cc))
   where
-    by : RightLength list → (o : Option ℕ) → First (is_fault list) (budget_count list) o → at_entry o ≡ none → RightList list
-    by h none right e = record {
+    by : RightLength list → (o : Option ℕ) → First (is_fault list) (budget_count list) o → at_entry o ≡ None → RightList list
+    by h None right e = record {
       some = omega (arith, h.not_empty, h.no_part);
       few = h.not_long;
       whole = omega (arith, h.no_part);
       high = λ k l. (right-entry list k (right k l)).0;
       no_fall = λ k l. (right-entry list (suc k) (right (suc k) l)).1;
     }
-    by h (some k) wrong e = never e
+    by h (Some k) wrong e = absurd (cc)
 
 -- what the code's answer tells of a list
-pub listed-right : (list : List ℕ) {r : Listed} {n : ℕ} → r ≡ list_answer list (list_refusal list) → r ≡ Budgets n
-    → (list_refusal list ≡ none) × (n ≡ budget_count list)
-listed-right list {n = n} answer e = by (list_refusal list) refl (sym e ∙ answer)
+pub listed-right : (list : List ℕ) {n : ℕ} → Ok n ≡ list_answer list (list_refusal list) → (list_refusal list ≡ None) × (n ≡ budget_count list)
+listed-right list {n} = by (list_refusal list) refl
   where
-    by : (o : Option Refusal) → list_refusal list ≡ o → Budgets n ≡ list_answer list o → (list_refusal list ≡ none) × (n ≡ budget_count list)
-    by none is f = (is, cc)
-    by (some q) is f = no_answer (sym f)
+    by : (o : Option Refusal) → list_refusal list ≡ o → Ok n ≡ list_answer list o → (list_refusal list ≡ None) × (n ≡ budget_count list)
+    by None is e = (is, cc)
+    by (Some q) is e = absurd (cc)
 
-pub listed-refused : (list : List ℕ) {r : Listed} {q : Refusal} → r ≡ list_answer list (list_refusal list) → r ≡ Refused q → list_refusal list ≡ some q
-listed-refused list {q = q} answer e = by (list_refusal list) refl (sym e ∙ answer)
+pub listed-refused : (list : List ℕ) {q : Refusal} → Err q ≡ list_answer list (list_refusal list) → list_refusal list ≡ Some q
+listed-refused list {q} = by (list_refusal list) refl
   where
-    by : (o : Option Refusal) → list_refusal list ≡ o → Refused q ≡ list_answer list o → list_refusal list ≡ some q
-    by none is f = no_answer f
-    by (some p) is f = cc
+    by : (o : Option Refusal) → list_refusal list ≡ o → Err q ≡ list_answer list o → list_refusal list ≡ Some q
+    by None is e = absurd (cc)
+    by (Some p) is e = cc

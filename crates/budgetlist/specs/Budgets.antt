@@ -1,16 +1,11 @@
 -- A list of budgets, and what is wrong with one. Document 02, W7: 'Take a list of budgets, 8 bytes each, equal ones allowed'.
 -- Assumes nothing.
-use Rattle.std.specs.Prelude.{Bool, ◌&&◌, ◌||◌, cond, List, ℕ, zero, suc, ◌*◌, ◌/◌, ◌%◌, leb, ltb, eqb, length}
-use Rattle.std.proofs.Math.Option.{Option, none, some}
+use Rattle.std.specs.Prelude.{Bool, ◌&&◌, ◌||◌, cond, List, ℕ, zero, suc, ◌*◌, ◌/◌, ◌%◌, leb, ltb, eqb, length, Option, Some, None, Result, Ok, Err}
 use Rattle.sizes.specs.Sizes.{most_power, most_budgets, budget_bytes}
 use Rattle.lists.specs.First.{first}
 use Rattle.bigendian.specs.Number.{number}
 use Rattle.refusals.specs.declared.Refusal.{Refusal}
 use Rattle.refusals.specs.declared.Refusal.TheVariants.{OperandOutOfRange}
-use Rattle.budgetlist.specs.declared.Fault.{Fault}
-use Rattle.budgetlist.specs.declared.Fault.TheVariants.{Nowhere, Entry}
-use Rattle.budgetlist.specs.declared.Listed.{Listed}
-use Rattle.budgetlist.specs.declared.Listed.TheVariants.{Budgets, Refused}
 
 -- the budget at number k, from 0: 'a number of several bytes goes high byte first'
 abbrev pub budget_of : (list : List ℕ) → (k : ℕ) → ℕ
@@ -29,21 +24,16 @@ abbrev pub is_fault : (list : List ℕ) → (k : ℕ) → Bool
 is_fault list zero = ltb most_power (budget_of list zero)
 is_fault list (suc k) = ltb most_power (budget_of list (suc k)) || ltb (budget_of list (suc k)) (budget_of list k)
 
--- what the search for such an entry answers, as an option
-abbrev pub fault_at : Fault → Option ℕ
-fault_at Nowhere = none
-fault_at (Entry k) = some k
-
 -- 'refused with 4, its length judged first with place 0, else with the number, from 0, of the first entry that is too large or below the one
 -- before it'
 abbrev pub at_entry : Option ℕ → Option Refusal
-at_entry (some k) = some (OperandOutOfRange k)
-at_entry none = none
+at_entry (Some k) = Some (OperandOutOfRange k)
+at_entry None = None
 
 unfoldable pub list_refusal : (list : List ℕ) → Option Refusal
-list_refusal list = cond (is_length list) (at_entry (first (is_fault list) (budget_count list))) (some (OperandOutOfRange 0))
+list_refusal list = cond (is_length list) (at_entry (first (is_fault list) (budget_count list))) (Some (OperandOutOfRange 0))
 
 -- what judging a list answers: how many budgets it has, or its refusal
-abbrev pub list_answer : (list : List ℕ) → Option Refusal → Listed
-list_answer list none = Budgets (budget_count list)
-list_answer list (some q) = Refused q
+abbrev pub list_answer : (list : List ℕ) → Option Refusal → Result ℕ Refusal
+list_answer list None = Ok (budget_count list)
+list_answer list (Some q) = Err q

@@ -1,11 +1,11 @@
 -- What a call that is not turned down has of its sheet and its list, how many bytes the totals take, and where each budget's stand.
 -- Assumes nothing.
 use mathlib.Core.List.{List, ◌++◌}
-use mathlib.Core.Option.{Option, none, some}
 use mathlib.Core.Path.{◌≡◌, refl, ap, ◌∙◌}
 use Prim.Native.Nat.{ℕ, ◌+◌, ◌*◌, ◌^◌, ◌≤◌, ◌<◌}
 use native.Mathlib.Omega.{arith}
 use lib.ListN.{length, length-append}
+use Rattle.std.specs.Prelude.{Option, Some, None}
 use Rattle.sizes.specs.Sizes.{totals_bytes}
 use Rattle.lists.proofs.Joined.{length-even}
 use Rattle.bigendian.specs.Number.{number, bytes}
@@ -36,8 +36,8 @@ judged-is list (refused q) l e = never e
 judged-is list (accepted k) l e = by (list_refusal list) refl e
   where
     by : (o : Option Refusal) → list_refusal list ≡ o → on_list o (budget_of list 0) k ≡ accepted l → Judged list (accepted k) l
-    by (some q) is f = never f
-    by none is f =
+    by (Some q) is f = never f
+    by None is f =
         let kept = within-budget (budget_of list 0) k l f in
         record { says = ap accepted kept.0; right = right-list list is; fits = rw kept.0 at kept.1 }
 

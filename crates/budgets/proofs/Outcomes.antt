@@ -1,7 +1,6 @@
 -- Which outcome each test of the code leads to.
 -- Assumes nothing.
 use mathlib.Core.List.{List}
-use mathlib.Core.Option.{none, some}
 use mathlib.Core.Path.{◌≡◌, refl, sym, ap, ◌∙◌}
 use Prim.Native.Nat.{ℕ, ◌*◌, ◌≤◌, ◌<◌}
 use native.Mathlib.Omega.{arith}
@@ -9,18 +8,18 @@ use borrow.Author.Tests.{ltb-false}
 use lib.Dec.{ltb}
 use lib.ListN.{length}
 use lib.Seq.{sets}
+use Rattle.std.specs.Prelude.{Some, None, Result, Ok, Err}
 use Rattle.sizes.specs.Sizes.{totals_bytes}
 use Rattle.lists.proofs.Tests.{by-test}
 use Rattle.line.specs.Line.{Line, rest_total}
 use Rattle.refusals.specs.declared.Refusal.{Refusal}
 use Rattle.refusals.specs.declared.Refusal.TheVariants.{DestinationTooSmall, RestsOverBudget}
-use Rattle.refusals.specs.declared.WriteAnswer.{WriteAnswer}
-use Rattle.refusals.specs.declared.WriteAnswer.TheVariants.{Written, Refused}
 use Rattle.refusals.specs.Writing.{Writing, writes, turned_down, write_answer}
 use Rattle.refusals.proofs.Writing.{too_small, fits}
 use Rattle.rows.specs.declared.Header.{Header}
 use Rattle.budgetlist.specs.Budgets.{budget_of, budget_count, list_refusal}
 use Rattle.sheet.specs.Reading.{Meaning, accepted, refused, said}
+use Rattle.sheet.specs.declared.Index.{Index}
 use Rattle.sheet.specs.Index.{Indexed}
 use Rattle.sheet.specs.Writes.{writing}
 use Rattle.sheet.proofs.Rests.{rests-kept, rests-over}
@@ -29,17 +28,17 @@ use Rattle.budgets.specs.Budgets.{totals_bytes_of, judged_with, budgeting}
 use Rattle.budgets.proofs.Laws.{judged-is, length-totals}
 
 -- the call as one that only writes
-abbrev pub totals-write : (list : List ℕ) → WritingCall WriteAnswer
+abbrev pub totals-write : (list : List ℕ) → WritingCall (Result (Unit {0}) Refusal)
 totals-write list = only-writes (totals_bytes_of list)
 
 module _ (list : List ℕ) (l : Line) (room : ℕ) where
   abbrev outcome : Writing
   outcome = writing (totals_bytes_of list) (judged_with list (accepted l)) room
 
-  pub list-refused : {q : Refusal} → list_refusal list ≡ some q → outcome ≡ turned_down q
+  pub list-refused : {q : Refusal} → list_refusal list ≡ Some q → outcome ≡ turned_down q
   list-refused e = rw e
 
-  module _ (right : list_refusal list ≡ none) where
+  module _ (right : list_refusal list ≡ None) where
     pub rests-refused : budget_of list 0 < rest_total l → outcome ≡ turned_down RestsOverBudget
     rests-refused h = rw (right, rests-over (budget_of list 0) l h)
 
@@ -52,11 +51,11 @@ module _ (list : List ℕ) (l : Line) (room : ℕ) where
 
   -- ---- the other way round: what the answer tells
 
-  pub told-refused : {q : Refusal} → Refused q ≡ write_answer outcome → outcome ≡ turned_down q
+  pub told-refused : {q : Refusal} → Err q ≡ write_answer outcome → outcome ≡ turned_down q
   told-refused {q} e = by outcome e
     where
-      by : (w : Writing) → Refused q ≡ write_answer w → w ≡ turned_down q
-      by (writes bytes) f = let z : ◌≡◌ {A = ℕ} 0 1 = cc in absurd (omega arith)
+      by : (w : Writing) → Err q ≡ write_answer w → w ≡ turned_down q
+      by (writes bytes) f = absurd (cc)
       by (turned_down p) f = cc
 
   -- the list is right, the rests keep its first budget, and there is room
@@ -64,17 +63,14 @@ module _ (list : List ℕ) (l : Line) (room : ℕ) where
     pub judged : judged_with list (accepted l) ≡ accepted l
     pub room_enough : totals_bytes * budget_count list ≤ room
 
-  pub told-written : Written ≡ write_answer outcome → Told
+  pub told-written : Ok tt ≡ write_answer outcome → Told
   told-written e = by (judged_with list (accepted l)) (λ k f. f) e
     where
-      no-refusal : {q : Refusal} → Written ≡ Refused q → Told
-      no-refusal f = let z : ◌≡◌ {A = ℕ} 0 1 = cc in absurd (omega arith)
-
-      by : (m : Meaning) → ((k : Line) → m ≡ accepted k → judged_with list (accepted l) ≡ accepted k) → Written ≡ write_answer (writing (totals_bytes_of list) m room) → Told
-      by (refused q) is f = no-refusal f
+      by : (m : Meaning) → ((k : Line) → m ≡ accepted k → judged_with list (accepted l) ≡ accepted k) → Ok tt ≡ write_answer (writing (totals_bytes_of list) m room) → Told
+      by (refused q) is f = absurd (cc)
       by (accepted k) is f =
           let same : l ≡ k = cc (judged-is list (accepted l) k (is k (cc))).says in
-          by-test (λ (w : Writing). Written ≡ write_answer w → Told) (ltb room (length (totals_bytes_of list k))) (λ t g. no-refusal g)
+          by-test (λ (w : Writing). Ok tt ≡ write_answer w → Told) (ltb room (length (totals_bytes_of list k))) (λ t g. absurd (cc))
           (λ t g. record {
             judged = is k (cc) ∙ ap accepted (sym same);
             room_enough = omega (arith, ltb-false room (length (totals_bytes_of list k)) t, length-totals list k);
@@ -82,7 +78,7 @@ module _ (list : List ℕ) (l : Line) (room : ℕ) where
           f
 
 -- the line that the bytes say is the one that is indexed
-pub only-line : {s places rests highs maps : List ℕ} {h : Header} (x : Indexed s h places rests highs maps) {l : Line} → said s ≡ accepted l → (list : List ℕ)
+pub only-line : {s : List ℕ} {h : Header} {i : Index} (x : Indexed s h i) {l : Line} → said s ≡ accepted l → (list : List ℕ)
     → judged_with list (accepted x.line) ≡ accepted x.line → judged_with list (accepted l) ≡ accepted l
 only-line x {l} e list j =
     let same : x.line ≡ l = cc x.means in
@@ -93,12 +89,12 @@ only-line x {l} e list j =
 module _ (s list : List ℕ) {l : Line} (means : said s ≡ accepted l) (out : List ℕ) where
   -- refused after what the bytes say
   pub refusal-ends : {q : Refusal} → writing (totals_bytes_of list) (judged_with list (accepted l)) (length out) ≡ turned_down q
-      → EndsAt (totals-write list) (budgeting s list (length out)) out out (Refused q)
+      → EndsAt (totals-write list) (budgeting s list (length out)) out out (Err q)
   unfolding budgeting
   refusal-ends {q} e = rw (means, e) (ends_at (totals-write list) (turned_down q) out refl refl)
 
   pub writing-ends : Told list l (length out) → {out' : List ℕ} → out' ≡ sets out 0 (totals_bytes_of list l)
-      → EndsAt (totals-write list) (budgeting s list (length out)) out out' Written
+      → EndsAt (totals-write list) (budgeting s list (length out)) out out' (Ok tt)
   unfolding budgeting
   writing-ends t e = rw (means, e) (written-ends (totals-write list) t.judged out (omega (arith, length-totals list l, t.room_enough)) refl)
 

@@ -5,7 +5,6 @@ use mathlib.Core.Path.{◌≡◌, refl, ap, ◌∙◌}
 use Prim.Native.Nat.{ℕ, suc, ◌+◌, ◌*◌, ◌≤◌, ◌<◌}
 use native.Mathlib.Numerals.{add-one}
 use native.Mathlib.Omega.{arith}
-use lib.ListN.{length}
 use lib.Seq.{sets}
 use Rattle.sizes.specs.Sizes.{most_bits_of_all, totals_bytes}
 use Rattle.bigendian.specs.Number.{bytes}
@@ -55,11 +54,6 @@ module _ {count : ℕ} {A : Arrays} {list : List ℕ} {n : ℕ} {out₀ : List �
   }
 
   module _ {out : List ℕ} {running : Running} {free held : List ℕ} {moves k : ℕ} (G : Passing count A list n out₀ out running free held moves k) where
-    pub passing-length : length out ≡ length out₀
-    passing-length =
-        let S = G.passable.some_tones in
-        (G.entries S.tones S.loadable).same_length
-
     -- a run may go on from here
     pub passing-runs : Runnable count A running
     passing-runs =

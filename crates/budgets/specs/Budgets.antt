@@ -1,8 +1,7 @@
 -- The call that gives the totals of a line for each budget of a list, for all bytes of sheet and list and all buffers. Document 02, W7: 'return
 -- total bits and total power for each, 4 and 8 bytes'.
 -- Assumes nothing.
-use Rattle.std.specs.Prelude.{List, ◌++◌, ℕ}
-use Rattle.std.proofs.Math.Option.{Option, none, some}
+use Rattle.std.specs.Prelude.{List, ◌++◌, ℕ, Option, Some, None}
 use Rattle.lists.specs.Joined.{joined_below}
 use Rattle.bigendian.specs.Number.{bytes}
 use Rattle.steps.specs.Tones.{Tones, total_bits, total_power}
@@ -31,8 +30,8 @@ totals_bytes_of list l = joined_below (λ k. totals_of (with_budget (budget_of l
 
 -- What the bytes of the sheet say comes first; 4 of the list 'comes straight after 7, then 16, judged against the first budget'.
 abbrev pub on_list : Option Refusal → (first : ℕ) → Line → Meaning
-on_list (some q) first l = refused q
-on_list none first l = rests_within first l
+on_list (Some q) first l = refused q
+on_list None first l = rests_within first l
 
 abbrev pub judged_with : (list : List ℕ) → Meaning → Meaning
 judged_with list (refused q) = refused q

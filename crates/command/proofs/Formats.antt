@@ -1,6 +1,6 @@
 -- A format with more tones, words or bytes covers one with fewer, since each operand takes what it took; so does one with more commands.
 -- Assumes nothing.
-use mathlib.Core.Bool.{Bool, true, false, cond}
+use mathlib.Core.Bool.{Bool, true, false, cond, true≢false}
 use mathlib.Core.List.{List, [], ◌∷◌, ◌++◌}
 use mathlib.Core.Option.{Option, none, some}
 use mathlib.Core.Path.{◌≡◌, refl, sym, subst}
@@ -8,12 +8,13 @@ use Prim.Native.Nat.{ℕ, zero, suc, ◌+◌, ◌≤◌}
 use native.Mathlib.Omega.{arith}
 use borrow.Author.Tests.{le-ltb}
 use lib.Dec.{eqb}
+use Rattle.std.specs.Prelude.{is_ok, Result}
 use Rattle.bigendian.specs.Number.{number}
 use Rattle.refusals.specs.declared.Refusal.{Refusal}
 use Rattle.rows.specs.declared.Header.{Header}
 use Rattle.rows.specs.declared.Command.{Command}
 use Rattle.rows.specs.Rows.{Seen, Operand, Row, within, silence, end, tenths_rows, reading_rows, rest_rows, twin_rows, high_rows, rows_of, width, with_code, judged, operands_from, row_at}
-use Rattle.command.specs.Format.{Format, format_of, document01_tones, document01_words, document01_bytes, document01, with_tenths, with_readings, with_rests, with_twins, with_sizes, today, is_refused, Covers, Covered, Within}
+use Rattle.command.specs.Format.{Format, format_of, document01_tones, document01_words, document01_bytes, document01, with_tenths, with_readings, with_rests, with_twins, with_sizes, today, Covers, Covered, Within}
 use Rattle.command.proofs.Walk.{in_within}
 
 -- what holds of the elements of two lists, one by one
@@ -49,9 +50,9 @@ wider-width [] (o ∷ os) a = elim a [ ]
 wider-width (o' ∷ os') [] a = elim a [ ]
 wider-width (o' ∷ os') (o ∷ os) a = rw (a.0.same_width, wider-width os' os a.1)
 
--- wherever the operands are not refused, neither are the wider ones
+-- wherever the operands are not refused, the wider ones do the same
 wider-operands : (seen : Seen) (s : List ℕ) (at : ℕ) (os' os : List Operand) (does : List ℕ → Command) → Paired Wider os' os
-    → is_refused (operands_from seen s at os does) ≡ false → operands_from seen s at os' does ≡ operands_from seen s at os does
+    → is_ok (operands_from seen s at os does) ≡ true → operands_from seen s at os' does ≡ operands_from seen s at os does
 wider-operands seen s at [] [] does a e = refl
 wider-operands seen s at [] (o ∷ os) does a e = elim a [ ]
 wider-operands seen s at (o' ∷ os') [] does a e = elim a [ ]
@@ -64,10 +65,8 @@ wider-operands seen s at (o' ∷ os') (o ∷ os) does a e =
     next : Seen
     next = record { header = seen.header; known = seen.known; before = seen.before ++ (v ∷ []) }
 
-    by : (q q' : Option Refusal) {c c' : Command} → (q ≡ none → q' ≡ none) → (is_refused c ≡ false → c' ≡ c) → is_refused (judged q c) ≡ false → judged q' c' ≡ judged q c
-    by (some r) q' t rest e =
-        let z : ◌≡◌ {A = ℕ} 0 1 = cc in
-        absurd (omega arith)
+    by : (q q' : Option Refusal) {c c' : Result Command Refusal} → (q ≡ none → q' ≡ none) → (is_ok c ≡ true → c' ≡ c) → is_ok (judged q c) ≡ true → judged q' c' ≡ judged q c
+    by (some r) q' t rest e = absurd (true≢false (sym e))
     by none q' t rest e = rw (t refl) (rest e)
 
 -- ---- rows

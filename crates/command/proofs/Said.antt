@@ -11,6 +11,7 @@ use borrow.Author.Rules.{rules}
 use borrow.Author.Tests.{leb-false, ltb-false}
 use lib.Dec.{leb, ltb}
 use lib.ListN.{length, get_or}
+use Rattle.std.specs.Prelude.{Result, Ok, Err}
 use Rattle.sizes.specs.Sizes.{most_words, longest_sheet}
 use Rattle.lists.proofs.Tests.{by-test}
 use Rattle.bigendian.specs.Number.{number}
@@ -18,9 +19,10 @@ use Rattle.bigendian.proofs.Numbers.{number-one}
 use Rattle.silence.specs.Map.{names_beyond}
 use Rattle.gaps.specs.Gap.{parts}
 use Rattle.line.specs.Line.{is_described}
+use Rattle.refusals.specs.declared.Refusal.{Refusal}
 use Rattle.rows.specs.declared.Header.{Header}
 use Rattle.rows.specs.declared.Command.{Command}
-use Rattle.rows.specs.declared.Command.TheVariants.{End, Refused, Head, Describe, Rest, High, Silence}
+use Rattle.rows.specs.declared.Command.TheVariants.{End, Head, Describe, Rest, High, Silence}
 use Rattle.rows.specs.declared.Decoded.{Decoded}
 use Rattle.rows.specs.Rows.{Known, Operand, takes_rest, takes_high, is_rest_of, Row, rest, high, describing, numbers, level_operands, ratio_operands, width}
 use Rattle.noises.specs.Noises.{entry_has_noise, entry_low}
@@ -88,7 +90,6 @@ pub record Ends (s : List ℕ) (at stage next : ℕ) : Type 0 where
   pub late : 3 ≤ stage
 
 abbrev pub Said : Header → (known : Known) → List ℕ → (at stage next : ℕ) → Command → Type 0
-Said h known s at stage next (Refused q) = Unit {0}
 Said h known s at stage next End = Ends s at stage next
 Said h known s at stage next (Head h') = Heads s at stage next
 Said h known s at stage next (Describe i) = DescribesTone h known s at stage next i
@@ -96,15 +97,15 @@ Said h known s at stage next (Rest i) = RestsTone h known s at stage next i
 Said h known s at stage next (High i) = WidensTone h known s at stage next i
 Said h known s at stage next (Silence word map) = Silences h s at stage next word map
 
--- the same of what is decoded
-abbrev pub SaidOf : Header → (known : Known) → List ℕ → (at stage : ℕ) → Decoded → Type 0
-SaidOf h known s at stage d = Said h known s at stage d.next d.command
+-- the same of what is decoded; nothing of a refusal
+abbrev pub SaidOf : Header → (known : Known) → List ℕ → (at stage : ℕ) → Result Decoded Refusal → Type 0
+SaidOf h known s at stage (Ok d) = Said h known s at stage d.next d.command
+SaidOf h known s at stage (Err q) = Unit {0}
 
 -- a row that makes a new header
 abbrev IsHead : Command → Type 0
 IsHead (Head h) = Unit {0}
 IsHead End = ⊥
-IsHead (Refused q) = ⊥
 IsHead (Describe i) = ⊥
 IsHead (Rest i) = ⊥
 IsHead (High i) = ⊥
@@ -191,7 +192,6 @@ module _ (h : Header) (known : Known) (s : List ℕ) (at : ℕ) (short : length 
       by : {next : ℕ} (c : Command) → IsHead c → There (length s) at next → Said h known s at stage next c
       by (Head h') i t = record { there = t; early = early }
       by End i t = absurd i
-      by (Refused q) i t = absurd i
       by (Describe i) k t = absurd k
       by (Rest i) k t = absurd k
       by (High i) k t = absurd k
@@ -239,4 +239,4 @@ pub command-said : (h : Header) (known : Known) (s : List ℕ) (at stage : ℕ) 
 unfolding command_at
 command-said h known s at stage =
     by-test (SaidOf h known s at stage) (is_too_long today s) (λ e. tt)
-    (λ e. by_rows today h known s at stage (SaidOf h known s at stage) (λ q next. tt) (all_said h known s at (ltb-false _ _ e) stage))
+    (λ e. by_rows today h known s at stage (SaidOf h known s at stage) (λ q. tt) (all_said h known s at (ltb-false _ _ e) stage))

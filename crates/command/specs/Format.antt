@@ -1,14 +1,13 @@
 -- What a format allows, and the command at a place of a sheet. Document 01, 'The line sheet' and 'Why a sheet is turned down'; document 02,
 -- W1, W5, W6, W8 and W9.
 -- Assumes nothing.
-use Rattle.std.specs.Prelude.{Bool, true, false, cond, List, ◌++◌, ◌≡◌, ℕ, ◌≤◌, leb, ltb, length, get_or}
+use Rattle.std.specs.Prelude.{Bool, true, false, cond, List, ◌++◌, ◌≡◌, ℕ, ◌≤◌, leb, ltb, length, get_or, is_ok, Result, Err}
 use Rattle.std.proofs.Math.Option.{Option, none, some}
 use Rattle.sizes.specs.Sizes.{most_tones, most_words, words_of, longest_sheet}
 use Rattle.bigendian.specs.Number.{byte_base}
+use Rattle.refusals.specs.declared.Refusal.{Refusal}
 use Rattle.refusals.specs.declared.Refusal.TheVariants.{SheetTooLong, SheetEnds, CommandNotAllowed}
 use Rattle.rows.specs.declared.Header.{Header}
-use Rattle.rows.specs.declared.Command.{Command}
-use Rattle.rows.specs.declared.Command.TheVariants.{End, Refused, Head, Describe, Rest, High, Silence}
 use Rattle.rows.specs.declared.Decoded.{Decoded}
 use Rattle.rows.specs.Rows.{Known, Row, width, first_rows, tenths_rows, reading_rows, rest_rows, rows_to_twins, rows_of, with_code, row_at, whole_row}
 
@@ -76,37 +75,26 @@ is_too_long F s = ltb F.bytes (length s)
 
 -- The command at a place of a sheet: refusal 2 where the sheet ends there, 3 where its byte is not allowed; else as its row has it. With it
 -- comes the place after the command.
-abbrev pub decoded_row : Header → (known : Known) → List ℕ → (at : ℕ) → Option Row → Decoded
-decoded_row h known s at none = record { command = Refused (CommandNotAllowed at); next = at }
+abbrev pub decoded_row : Header → (known : Known) → List ℕ → (at : ℕ) → Option Row → Result Decoded Refusal
+decoded_row h known s at none = Err (CommandNotAllowed at)
 decoded_row h known s at (some r) = whole_row h known s at r
 
-unfoldable pub decoded : Format → Header → (known : Known) → List ℕ → (at stage : ℕ) → Decoded
+unfoldable pub decoded : Format → Header → (known : Known) → List ℕ → (at stage : ℕ) → Result Decoded Refusal
 unfolding row_at
 decoded F h known s at stage =
-    cond (leb (length s) at) (record { command = Refused (SheetEnds (length s)); next = at })
-    (decoded_row h known s at (with_code (F.rows stage) (get_or s at 0)))
+    cond (leb (length s) at) (Err (SheetEnds (length s))) (decoded_row h known s at (with_code (F.rows stage) (get_or s at 0)))
 
 -- The command at a place of any bytes: of a sheet that is too long no command is read.
-unfoldable pub command_at : Format → Header → (known : Known) → List ℕ → (at stage : ℕ) → Decoded
+unfoldable pub command_at : Format → Header → (known : Known) → List ℕ → (at stage : ℕ) → Result Decoded Refusal
 unfolding decoded
-command_at F h known s at stage =
-    cond (is_too_long F s) (record { command = Refused SheetTooLong; next = at }) (decoded F h known s at stage)
+command_at F h known s at stage = cond (is_too_long F s) (Err SheetTooLong) (decoded F h known s at stage)
 
 -- ---- one format within another
-
-abbrev pub is_refused : Command → Bool
-is_refused (Refused r) = true
-is_refused End = false
-is_refused (Head h) = false
-is_refused (Describe i) = false
-is_refused (Rest i) = false
-is_refused (High i) = false
-is_refused (Silence word map) = false
 
 -- A row covers another: wherever that one takes a command, this one takes as many bytes and does the same.
 pub record Covers (r' r : Row) : Type 0 where
   pub same_width : width r'.operands ≡ width r.operands
-  pub same_effect : (h : Header) (known : Known) (s : List ℕ) (at : ℕ) → is_refused (row_at h known s at r) ≡ false → row_at h known s at r' ≡ row_at h known s at r
+  pub same_effect : (h : Header) (known : Known) (s : List ℕ) (at : ℕ) → is_ok (row_at h known s at r) ≡ true → row_at h known s at r' ≡ row_at h known s at r
 
 -- what a row that a format finds for a command byte needs of a larger one
 abbrev pub Covered : Option Row → Option Row → Type 0

@@ -6,11 +6,12 @@ ghost use Rattle.std.specs.Prelude.{◌≡◌, ◌+◌, ◌≤◌, length};
 ghost use Rattle.sizes.specs.Sizes.{longest_sheet};
 ghost use Rattle.gaps.specs.Gap.{parts};
 ghost use Rattle.line.specs.Line.{EntryInRange};
-ghost use Rattle.places.specs.Places.{entry_at};
+ghost use Rattle.places.specs.Places.{entry_noted};
 ghost use Rattle.rows.specs.Rows.{Known, row_at, whole_row, with_code};
-ghost use Rattle.rows.specs.Codes.{known_at, ToneCode, RestCode, HighCode, row_of, command_bytes};
+ghost use Rattle.rows.specs.Codes.{known_noted, ToneCode, RestCode, HighCode, row_of, command_bytes};
 ghost use Rattle.command.specs.Format.{is_row, today, command_at};
 
+use places::Noted;
 use refusals::Refusal;
 use rows::{Command, Decoded, Header};
 use sizes::SHEET_BYTES;
@@ -19,23 +20,16 @@ use sizes::SHEET_BYTES;
 fn is_allowed(stage: u8, code: u8) -> bool
     ensures { result ≡ is_row (with_code (today.rows stage) code) }
 {
-    if stage == 0 {
-        return code == 1;
-    }
-    if stage == 1 {
-        return code == 2 || code == 8;
-    }
-    if stage == 2 {
-        return code == 3;
-    }
-    match code {
-        4..=7 | 9..=12 | 20..=21 | 25..=28 => true,
-        _ => false,
+    match stage {
+        0 => code == 1,
+        1 => code == 2 || code == 8,
+        2 => code == 3,
+        _ => matches!(code, 4..=7 | 9..=12 | 20..=21 | 25..=28),
     }
 }
 
 // What a command does that addresses no tone, all of whose bytes are there.
-fn line_operands(s: &[u8], at: usize, code: u8, header: Header) -> Command
+fn line_operands(s: &[u8], at: usize, code: u8, header: Header) -> Result<Command, Refusal>
     requires no_tone { ToneCode code → ⊥ }
     requires no_rest { RestCode code → ⊥ }
     requires no_high { HighCode code → ⊥ }
@@ -47,99 +41,64 @@ fn line_operands(s: &[u8], at: usize, code: u8, header: Header) -> Command
         1..=3 => rows::header_command(s, at, code, header),
         6 => rows::silence_command(s, at, header),
         8 => rows::tenths_command(s, at, header),
-        _ => Command::End,
+        _ => Ok(Command::End),
     }
 }
 
 // What a command does, all of whose bytes are there.
-fn operands(
-    s: &[u8],
-    at: usize,
-    code: u8,
-    header: Header,
-    place: u16,
-    rested: u16,
-    widened: u16,
-) -> Command
+fn operands(s: &[u8], at: usize, code: u8, header: Header, noted: Noted) -> Result<Command, Refusal>
     requires code_in_bounds { at + command_bytes code ≤ length s.now }
     requires s_len_bound { length s.now ≤ longest_sheet }
-    requires entry_in_range { EntryInRange (parts header.gap) (entry_at s.now place rested widened) }
-    ensures { result ≡ row_at header (known_at s.now place rested widened) s.now at (row_of code) }
+    requires entry_in_range { EntryInRange (parts header.gap) (entry_noted s.now noted) }
+    ensures { result ≡ row_at header (known_noted s.now noted) s.now at (row_of code) }
 {
-    let short = addresses::short_of(code);
-    match short {
-        4 | 5 | 9 | 10 => tonerows::tone_command(s, at, code, header, place),
-        11 => addedrows::rest_command(s, at, code, header, place, rested),
-        12 => addedrows::high_command(s, at, code, header, place, widened),
+    match addresses::short_of(code) {
+        4 | 5 | 9 | 10 => tonerows::tone_command(s, at, code, header, noted),
+        11 => addedrows::rest_command(s, at, code, header, noted),
+        12 => addedrows::high_command(s, at, code, header, noted),
         _ => line_operands(s, at, code, header),
     }
 }
 
-// What the command of a byte does, or why it is refused, and the place after it: 2 where its bytes are not all there, and then its operands
-// from left to right. `place` is where the tone that it addresses is described already, `rested` where that has had a rest,
-// and `widened` where it has had a high noise, or 0.
-fn row_at(
-    s: &[u8],
-    at: usize,
-    code: u8,
-    header: Header,
-    place: u16,
-    rested: u16,
-    widened: u16,
-) -> Decoded
+// What the command of a byte does, and the place after it: 2 where its bytes are not all there, and then its operands from left to right.
+fn row_at(s: &[u8], at: usize, code: u8, header: Header, noted: Noted) -> Result<Decoded, Refusal>
     requires at_in_bounds { at ≤ length s.now }
     requires s_len_bound { length s.now ≤ longest_sheet }
-    requires entry_in_range { EntryInRange (parts header.gap) (entry_at s.now place rested widened) }
-    ensures { result ≡ whole_row header (known_at s.now place rested widened) s.now at (row_of code) }
+    requires entry_in_range { EntryInRange (parts header.gap) (entry_noted s.now noted) }
+    ensures { result ≡ whole_row header (known_noted s.now noted) s.now at (row_of code) }
 {
-    let ends = s.len();
     let bytes = rows::bytes_of(code);
-    if ends - at < bytes {
-        return Decoded {
-            command: Command::Refused(Refusal::SheetEnds(ends as u16)),
-            next: at,
-        };
+    if s.len() - at < bytes {
+        return Err(Refusal::SheetEnds(s.len() as u16));
     }
-    Decoded {
-        command: operands(s, at, code, header, place, rested, widened),
+    let command = operands(s, at, code, header, noted)?;
+    Ok(Decoded {
+        command,
         next: at + bytes,
-    }
+    })
 }
 
-// The command at a place, and the place after it, with the header so far. `place` is where the tone that the command addresses is
-// described already, `rested` where that has had a rest,
-// and `widened` where it has had a high noise, or 0. What was accepted there is in range, since a rest is judged by it.
+// The command at a place, and the place after it, with the header so far and what is noted of the tone that the command addresses. What was
+// accepted of that tone is in range, since a rest is judged by it.
 pub fn decode(
     s: &[u8],
     at: usize,
     stage: u8,
     header: Header,
-    place: u16,
-    rested: u16,
-    widened: u16,
-) -> Decoded
-    requires { EntryInRange (parts header.gap) (entry_at s.now place rested widened) }
-    ensures { result ≡ command_at today header (known_at s.now place rested widened) s.now at stage }
+    noted: Noted,
+) -> Result<Decoded, Refusal>
+    requires { EntryInRange (parts header.gap) (entry_noted s.now noted) }
+    ensures { result ≡ command_at today header (known_noted s.now noted) s.now at stage }
 {
-    let length = s.len();
-    if SHEET_BYTES < length {
-        return Decoded {
-            command: Command::Refused(Refusal::SheetTooLong),
-            next: at,
-        };
+    if SHEET_BYTES < s.len() {
+        return Err(Refusal::SheetTooLong);
     }
-    if length <= at {
-        return Decoded {
-            command: Command::Refused(Refusal::SheetEnds(length as u16)),
-            next: at,
-        };
+    if s.len() <= at {
+        return Err(Refusal::SheetEnds(s.len() as u16));
     }
     let code = s[at];
     if !is_allowed(stage, code) {
-        return Decoded {
-            command: Command::Refused(Refusal::CommandNotAllowed(at as u16)),
-            next: at,
-        };
+        return Err(Refusal::CommandNotAllowed(at as u16));
     }
-    row_at(s, at, code, header, place, rested, widened)
+    row_at(s, at, code, header, noted)
 }

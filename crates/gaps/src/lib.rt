@@ -46,7 +46,8 @@ fn of_tenths(gaps: &[u16; 241], tenths: u8) -> u16
     gaps[tenths as usize]
 }
 
-// A gap in parts of 256, in whichever unit it was given; 0 of more tenths than a sheet may have.
+// A gap in parts of 256, in whichever unit it was given; 0 of more tenths than a sheet may have. Not an Option: no line has such a gap, and its
+// callers need no second case for it.
 pub fn parts(gap: Gap) -> u16
     ensures { result ≡ parts gap }
 {

@@ -1,13 +1,14 @@
 -- What the arrays of a line tell of its tones: their ranges, limits and powers; and the table of no bits beside them.
 -- Assumes nothing.
-use mathlib.Core.Path.{◌≡◌, refl, sym, ap, ◌∙◌}
+use mathlib.Core.Path.{◌≡◌, refl, sym, ap, ◌∙◌, subst}
 use mathlib.Core.Bool.{Bool, true, false}
 use mathlib.Core.List.{List}
 use Prim.Native.Nat.{ℕ, suc, ◌*◌, ◌^◌, ◌≤◌, ◌<◌}
 use native.Mathlib.Decide.{dec_lt}
 use native.Mathlib.Nat.{mul-le-mul_left, mul-le-mul_right, le_trans}
 use native.Mathlib.Omega.{arith}
-use lib.ListN.{get_or, replicate, length-replicate}
+use lib.ListN.{length, get_or, take, replicate, length-replicate}
+use Rattle.std.proofs.lemmas.List.{length-take-le, get_or-take}
 use Rattle.sizes.specs.Sizes.{most_tones, pair_cap, most_bits_of_all}
 use Rattle.lists.proofs.Stores.{all_same}
 use Rattle.silence.specs.Map.{silenced}
@@ -17,7 +18,7 @@ use Rattle.line.specs.declared.Limit.{Limit}
 use Rattle.line.specs.declared.Steps.{Steps}
 use Rattle.line.specs.Tone.{cost, limit}
 use Rattle.line.specs.Line.{Entry, undescribed, described, Line, gap_of, entry_of, entry_limit, entry_set_by, tones, EntryInRange, LineInRange, no_steps, entry_steps, steps_at}
-use Rattle.line.specs.Arrays.{Arrays, limit_at, cost_at, doublings_at, rest_at, step_size, StepsRise, ArraysInRange, Under, Describes, StandsFor, ArraysOf}
+use Rattle.line.specs.Arrays.{Arrays, steps_in, limit_at, cost_at, doublings_at, rest_at, power_in, step_size, StepsRise, ArraysInRange, Under, Describes, StandsFor, ArraysOf}
 use Rattle.line.proofs.Growth.{doublings-low, shift-at-most}
 use Rattle.line.proofs.Limits.{limit_is}
 use Rattle.line.proofs.Loads.{line-power}
@@ -52,25 +53,46 @@ limit-same g e true = refl
 limit-same g undescribed false = refl
 limit-same g (described t a) false = refl
 
-module _ (l : Line) (I : LineInRange l) (A : Arrays) (h : ArraysOf l A) where
-  pub line-arrays-in-range : ArraysInRange l.size A
-  line-arrays-in-range = record {
+-- an array that has the steps of a line's N tones: its ranges, and that it describes the tones
+module _ (l : Line) (I : LineInRange l) (A : Arrays) (agree : (i : ℕ) → i < l.size → steps_in A i ≡ steps_at l i) where
+  agreeing-in-range : ArraysInRange l.size A
+  agreeing-in-range = record {
     count_high = I.size_high;
-    steps_rise = λ i il. rw (h.limits_agree i, h.costs_agree i, h.doublings_agree i, h.rests_agree i) (at i il).steps_rise;
-    cost_high = λ i il. rw (h.costs_agree i) (at i il).cost_high;
-    shift_high = λ i il. rw (h.doublings_agree i, h.limits_agree i) (at i il).shift_high;
-    rest_high = λ i il. rw (h.rests_agree i) (at i il).rest_high;
+    steps_rise = λ i il. (at i il).steps_rise;
+    cost_high = λ i il. (at i il).cost_high;
+    shift_high = λ i il. (at i il).shift_high;
+    rest_high = λ i il. (at i il).rest_high;
   }
     where
-      at : (i : ℕ) → i < l.size → Small (steps_at l i)
-      at i il = small (gap_of l) (entry_of l i) (silenced l.maps i) (I.entries i il)
+      at : (i : ℕ) → i < l.size → Small (steps_in A i)
+      at i il = subst Small (sym (agree i il)) (small (gap_of l) (entry_of l i) (silenced l.maps i) (I.entries i il))
+
+  agreeing-describes : Describes l.size A (tones l)
+  agreeing-describes = record {
+    same_count = refl;
+    same_limit = λ i il. sym (ap (λ (s : Steps). s.limit.bits) (agree i il) ∙ ap (λ (x : Limit). x.bits) (limit-same (gap_of l) (entry_of l i) (silenced l.maps i)));
+    same_power = λ i b il bl. line-power l I i b bl ∙ ap (λ (s : Steps). power_in s.cost s.doublings s.rest b) (sym (agree i il));
+  }
+
+-- the array of a line, and the front of it that has its N tones
+module _ (l : Line) (I : LineInRange l) (A : Arrays) (h : ArraysOf l A) where
+  pub line-arrays-in-range : ArraysInRange l.size A
+  line-arrays-in-range = agreeing-in-range l I A (λ i il. h.agree i)
 
   pub line-describes : Describes l.size A (tones l)
-  line-describes = record {
-    same_count = refl;
-    same_limit = λ i il. sym (h.limits_agree i ∙ ap (λ (x : Limit). x.bits) (limit-same (gap_of l) (entry_of l i) (silenced l.maps i)));
-    same_power = λ i b il bl. rw (h.costs_agree i, h.doublings_agree i, h.rests_agree i) (line-power l I i b bl);
-  }
+  line-describes = agreeing-describes l I A (λ i il. h.agree i)
+
+  pub front-sized : length (take l.size A) ≡ l.size
+  front-sized = length-take-le l.size A (omega (arith, I.size_high, h.sized))
+
+  agree : (i : ℕ) → i < l.size → steps_in (take l.size A) i ≡ steps_at l i
+  agree i il = get_or-take l.size A i no_steps il ∙ h.agree i
+
+  pub front-in-range : ArraysInRange l.size (take l.size A)
+  front-in-range = agreeing-in-range l I (take l.size A) agree
+
+  pub front-describes : Describes l.size (take l.size A) (tones l)
+  front-describes = agreeing-describes l I (take l.size A) agree
 
 -- ---- any arrays that describe tones
 

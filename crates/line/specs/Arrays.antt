@@ -1,32 +1,30 @@
--- The tones of a line as arrays of numbers, so that the runs have one path for both kinds: limits, costs, by how many doublings a step
--- grows from bit to bit, and rests. What the arrays say of tones, and what bits beside them say of a table.
+-- The tones of a line as an array of their steps, so that the runs have one path for both kinds: of each tone its limit, its cost, by how many
+-- doublings a step grows from bit to bit, and its rest. What the array says of tones, and what bits beside it say of a table.
 -- Assumes nothing.
 use Rattle.std.specs.Prelude.{List, ◌≡◌, ℕ, zero, suc, ◌-◌, ◌*◌, ◌^◌, ◌≤◌, ◌<◌, length, get_or}
 use Rattle.sizes.specs.Sizes.{most_tones}
 use Rattle.steps.specs.Tones.{Tones, Rising, Table, ◌!◌, KeepsLimits}
-use Rattle.line.specs.Line.{Line, steps_at}
+use Rattle.line.specs.declared.Steps.{Steps}
+use Rattle.line.specs.Line.{Line, no_steps, steps_at}
 
-pub record Arrays : Type 0 where
-  pub limits : List ℕ
-  pub costs : List ℕ
-  pub doublings : List ℕ
-  pub rests : List ℕ
+abbrev pub Arrays : Type 0
+Arrays = List Steps
 
-abbrev pub arrays : (limits costs doublings rests : List ℕ) → Arrays
-arrays limits costs doublings rests = record { limits = limits; costs = costs; doublings = doublings; rests = rests }
+-- what it holds of tone i
+abbrev pub steps_in : Arrays → (i : ℕ) → Steps
+steps_in A i = get_or A i no_steps
 
--- what they hold of tone i
 abbrev pub limit_at : Arrays → (i : ℕ) → ℕ
-limit_at A i = get_or A.limits i 0
+limit_at A i = (steps_in A i).limit.bits
 
 abbrev pub cost_at : Arrays → (i : ℕ) → ℕ
-cost_at A i = get_or A.costs i 0
+cost_at A i = (steps_in A i).cost
 
 abbrev pub doublings_at : Arrays → (i : ℕ) → ℕ
-doublings_at A i = get_or A.doublings i 0
+doublings_at A i = (steps_in A i).doublings
 
 abbrev pub rest_at : Arrays → (i : ℕ) → ℕ
-rest_at A i = get_or A.rests i 0
+rest_at A i = (steps_in A i).rest
 
 -- the power of b bits, of one and more: the cost, doubled `doublings` × b times, less the cost
 abbrev pub power_of : (cost doublings b : ℕ) → ℕ
@@ -49,7 +47,7 @@ pub record StepsRise (cost doublings rest : ℕ) : Type 0 where
   pub doubles : 0 < doublings
   pub rest_low : rest < cost
 
--- the ranges of the arrays, which keep every step of so many tones above 0 and below 2^39
+-- the ranges of the array, which keep every step of so many tones above 0 and below 2^39
 pub record ArraysInRange (count : ℕ) (A : Arrays) : Type 0 where
   pub count_high : count ≤ most_tones
   pub steps_rise : (i : ℕ) → i < count → 0 < limit_at A i → StepsRise (cost_at A i) (doublings_at A i) (rest_at A i)
@@ -62,32 +60,29 @@ pub record Under (count : ℕ) (A : Arrays) (bits : List ℕ) : Type 0 where
   pub under : (i : ℕ) → i < count → get_or bits i 0 ≤ limit_at A i
 
 -- the range of rests
-pub record RestsInRange (count : ℕ) (rests : List ℕ) : Type 0 where
-  pub rest_high : (i : ℕ) → i < count → get_or rests i 0 < 2 ^ 24
+pub record RestsInRange (count : ℕ) (A : Arrays) : Type 0 where
+  pub rest_high : (i : ℕ) → i < count → rest_at A i < 2 ^ 24
 
 -- the ranges in which costs, doublings and rests give the powers of a table's bits
-pub record PowersInRange (count : ℕ) (costs doublings rests bits : List ℕ) : Type 0 where
-  pub cost_high : (i : ℕ) → i < count → get_or costs i 0 < 2 ^ 24
-  pub shift_high : (i : ℕ) → i < count → get_or doublings i 0 * get_or bits i 0 ≤ 15
-  pub rest_high : (i : ℕ) → i < count → get_or rests i 0 < 2 ^ 24
+pub record PowersInRange (count : ℕ) (A : Arrays) (bits : List ℕ) : Type 0 where
+  pub cost_high : (i : ℕ) → i < count → cost_at A i < 2 ^ 24
+  pub shift_high : (i : ℕ) → i < count → doublings_at A i * get_or bits i 0 ≤ 15
+  pub rest_high : (i : ℕ) → i < count → rest_at A i < 2 ^ 24
 
--- The arrays describe tones T: their number, their limits, and their powers within the limits.
+-- The array describes tones T: their number, their limits, and their powers within the limits.
 pub record Describes (count : ℕ) (A : Arrays) (T : Tones) : Type 0 where
   pub same_count : T.count ≡ count
   pub same_limit : (i : ℕ) → i < count → T.limit i ≡ limit_at A i
   pub same_power : (i b : ℕ) → i < count → b ≤ T.limit i → T.power i b ≡ power_at A i b
 
--- Beside the arrays, bits stand for table t of tones T, which keeps the limits; the steps of T rise.
+-- Beside the array, bits stand for table t of tones T, which keeps the limits; the steps of T rise.
 pub record StandsFor (count : ℕ) (A : Arrays) (bits : List ℕ) (T : Tones) (t : Table) : Type 0 where
   pub describes : Describes count A T
   pub rising : Rising T
   pub within : KeepsLimits T t
   pub same_bits : (i : ℕ) → i < count → t ! i ≡ get_or bits i 0
 
--- The arrays are those of a line, whole: past its N tones there is nothing.
+-- The array is that of a line, whole: past its N tones there is nothing.
 pub record ArraysOf (l : Line) (A : Arrays) : Type 0 where
-  pub sizes : (length A.limits ≡ most_tones) × (length A.costs ≡ most_tones) × (length A.doublings ≡ most_tones) × (length A.rests ≡ most_tones)
-  pub limits_agree : (i : ℕ) → limit_at A i ≡ (steps_at l i).limit.bits
-  pub costs_agree : (i : ℕ) → cost_at A i ≡ (steps_at l i).cost
-  pub doublings_agree : (i : ℕ) → doublings_at A i ≡ (steps_at l i).doublings
-  pub rests_agree : (i : ℕ) → rest_at A i ≡ (steps_at l i).rest
+  pub sized : length A ≡ most_tones
+  pub agree : (i : ℕ) → steps_in A i ≡ steps_at l i

@@ -49,12 +49,12 @@ struct Bounds {
     mask: u64,
 }
 
-// What set a tone's limit. A tone that is not described, or is silenced, is silent.
+// What set a tone's limit, each with its number in the bytes that a call writes. A tone that is not described, or is silenced, is silent.
 #[derive(Clone, Copy)]
 pub enum SetBy {
-    Silent,
-    Cap,
-    Mask,
+    Silent = 0,
+    Cap = 1,
+    Mask = 2,
 }
 
 // A tone's limit comes with what set it.
@@ -81,6 +81,31 @@ pub struct Steps {
     pub rest: u32,
 }
 
+impl Steps {
+    // The steps of a tone that takes no bits and sends nothing.
+    pub const NONE: Steps = Steps {
+        limit: Limit {
+            bits: 0,
+            by: SetBy::Silent,
+        },
+        cost: 0,
+        doublings: 0,
+        rest: 0,
+    };
+
+    // The power of a number of bits, of none the rest.
+    pub fn power(self, bits: u8) -> u64
+        requires cost_bound { self.cost < 2 ^ 24 }
+        requires bits_bound { self.doublings * bits ≤ 15 }
+        ensures { result ≡ power_in self.cost self.doublings self.rest bits }
+    {
+        if bits < 1 {
+            return self.rest as u64;
+        }
+        power_of(self.cost, self.doublings, bits)
+    }
+}
+
 // The largest cap of a tone of either kind.
 pub fn most_cap(is_single: bool) -> u8
     ensures { result ≡ most_cap is_single }
@@ -92,8 +117,7 @@ pub fn most_cap(is_single: bool) -> u8
 fn bounds_of(tone: Tone) -> Bounds
     ensures { result ≡ bounds_of tone }
 {
-    let kind = tone.kind;
-    match kind {
+    match tone.kind {
         Kind::Pair(n) => Bounds {
             cap: n.cap,
             mask: n.mask,
@@ -113,8 +137,7 @@ fn bounds_of(tone: Tone) -> Bounds
 fn doublings(tone: Tone) -> u8
     ensures { result ≡ doublings tone }
 {
-    let kind = tone.kind;
-    match kind {
+    match tone.kind {
         Kind::Pair(_) => 1,
         Kind::Single(_) => 2,
         Kind::Read(_) => 1,
@@ -137,14 +160,10 @@ fn cost(gap: u16, tone: Tone) -> u32
     ensures meaning { result ≡ cost gap tone }
     ensures range { Cost result }
 {
-    let kind = tone.kind;
-    match kind {
+    match tone.kind {
         Kind::Pair(n) => whole_cost(gap, n),
         Kind::Single(n) => whole_cost(gap, n),
-        Kind::Read(n) => {
-            let reading = n.reading;
-            readings::cost_of(gap, reading)
-        }
+        Kind::Read(n) => readings::cost_of(gap, n.reading),
     }
 }
 
@@ -158,18 +177,6 @@ fn power_of(cost: u32, doublings: u8, bits: u8) -> u64
     (cost << (doublings as u32 * bits as u32)) - cost
 }
 
-// The power of a number of bits, of none the rest.
-pub fn power_at(cost: u32, doublings: u8, rest: u32, bits: u8) -> u64
-    requires cost_bound { cost < 2 ^ 24 }
-    requires bits_bound { doublings * bits ≤ 15 }
-    ensures { result ≡ power_in cost doublings rest bits }
-{
-    if bits < 1 {
-        return rest as u64;
-    }
-    power_of(cost, doublings, bits)
-}
-
 // The limit of a tone, by trying the powers of 1 bit, 2 bits and so on until the cap or the mask stops it: that one set it. Each power
 // comes from the one before it: shifted, and the power of 1 bit added.
 fn limit_of(tone: Tone, cost: u32) -> Tried
@@ -181,29 +188,25 @@ fn limit_of(tone: Tone, cost: u32) -> Tried
     let cap = bounds.cap;
     let shift = doublings(tone);
     let first = power_of(cost, shift, 1);
-    let mut bits: u8 = 0;
-    let mut tries: u8 = 0;
     let mut power: u64 = 0;
-    while bits < cap {
+    for bits in 0..cap {
         power = (power << shift as u32) + first;
-        tries += 1;
         if bounds.mask < power {
             return Tried {
                 limit: Limit {
-                    bits: bits,
+                    bits,
                     by: SetBy::Mask,
                 },
-                tries: tries,
+                tries: bits + 1,
             };
         }
-        bits += 1;
     }
     Tried {
         limit: Limit {
-            bits: bits,
+            bits: cap,
             by: SetBy::Cap,
         },
-        tries: tries,
+        tries: cap,
     }
 }
 
@@ -232,12 +235,10 @@ pub fn steps_of(gap: u16, tone: Tone, rest: u32) -> Steps
     ensures { result ≡ steps_of gap tone rest }
 {
     let w = cost(gap, tone);
-    let tried = limit_of(tone, w);
-    let limit = tried.limit;
     Steps {
-        limit: limit,
+        limit: limit_of(tone, w).limit,
         cost: w,
         doublings: doublings(tone),
-        rest: rest,
+        rest,
     }
 }

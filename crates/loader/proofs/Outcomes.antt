@@ -3,6 +3,7 @@
 use mathlib.Core.List.{List}
 use mathlib.Core.Path.{◌≡◌, refl, fun_ext}
 use Prim.Native.Nat.{ℕ, ◌≤◌}
+use lib.ListN.{length, take}
 use Rattle.sizes.specs.Sizes.{most_bits_of_all}
 use Rattle.steps.specs.Tones.{Tones}
 use Rattle.line.specs.Line.{Line, rest_total, LineInRange, tones}
@@ -17,33 +18,21 @@ use Rattle.loadings.proofs.Runs.{line-loadable}
 use Rattle.loadings.proofs.UpTo.{whole-refit, single_step}
 use Rattle.sheet.specs.Reading.{Meaning, accepted, refused, reading}
 use Rattle.sheet.proofs.Sound.{Bytes, accepted-sound, accepted-fits}
-use Rattle.sheet.specs.declared.Read.{Read}
-use Rattle.sheet.specs.declared.Read.TheVariants as read
-use Rattle.arrays.specs.Tones.{TonesOf}
-use Rattle.arrays.proofs.Uses.{HeldLine, held-line, was-refused}
+use Rattle.arrays.proofs.Uses.{HeldLine}
 use Rattle.loader.specs.Calls.{on_line, refit, one_step, refit_by}
 
--- ---- what was read
-
-module _ {r : Read} {old new : Arrays} {m : Meaning} (x : TonesOf r old new m) where
-  pub held : {h : Header} → r ≡ read.Accepted h → HeldLine h new m
-  held e = held-line m (rw e at x)
-
-  pub refusal_is : {q : Refusal} → r ≡ read.Refused q → m ≡ refused q
-  refusal_is e = was-refused m (rw e at x)
-
--- ---- the loading of a line's tones
+-- ---- the loading of a line's tones, which stand at the front of the array
 
 module _ (s : List ℕ) {h : Header} {A : Arrays} (x : HeldLine h A (reading s)) where
-  held-loadable : Loadable h.size h.budget A (tones x.line)
+  held-loadable : Loadable (length (take h.size A)) h.budget (take h.size A) (tones x.line)
   held-loadable = rw (← x.header_is) (line-loadable x.line x.in_range x.line.budget (accepted-fits s x.line x.means) x.arrays_of)
 
-  pub some_tones : SomeTones h.size h.budget A
+  pub some_tones : SomeTones (length (take h.size A)) h.budget (take h.size A)
   some_tones = record { tones = tones x.line; loadable = held-loadable }
 
-  -- what holds of all tones that the arrays describe holds of the line's, within the line's budget
+  -- what holds of all tones that the array describes holds of the line's, within the line's budget
   pub on-held : (P : ((room : ℕ) → Loading) → Type 0) (on : Tones → (budget room : ℕ) → Loading)
-      → ForTones h.size h.budget A (λ T. P (on T h.budget)) → P (λ room. on_line (reading s) (λ T budget. on T budget room))
+      → ForTones (length (take h.size A)) h.budget (take h.size A) (λ T. P (on T h.budget)) → P (λ room. on_line (reading s) (λ T budget. on T budget room))
   on-held P on f = rw x.means (rw (← x.header_is) at (f (tones x.line) held-loadable))
 
 -- a sheet that was refused

@@ -16,7 +16,9 @@ use Rattle.line.proofs.Loads.{line-demand-3, line-set-bits, no-bits-keep}
 use Rattle.starts.proofs.First.{none_above}
 use Rattle.tables.specs.Tables.{table_bytes}
 use Rattle.tables.proofs.Entries.{length-entries}
-use Rattle.loadings.specs.declared.Loaded.{Loaded}
+use Rattle.std.specs.Prelude.{Result}
+use Rattle.refusals.specs.declared.Refusal.{Refusal}
+use Rattle.running.specs.declared.Totals.{Totals}
 use Rattle.loadings.specs.declared.Refitted.{Refitted}
 use Rattle.loadings.specs.Loads.{Loading, loaded, most_on, target_on, load_answer, load_numbers, load_outcome, after_loading, LoadsAs}
 use Rattle.loadings.specs.Refits.{refit_on, refit_answer, refit_numbers, refit_outcome, RefitsAs}
@@ -61,7 +63,7 @@ module _ (sheet : List ℕ) (b : Bytes sheet) (l : Line) (e : reading sheet ≡ 
     same : {A : Type 0} (f : Table → A) → f (refit_run (tones l) l.budget start).table ≡ f (most_bits (tones l) l.budget).table
     same f = ap f D.same_table
 
-    pub same-loading : {r : Refitted} → r ≡ refit_answer (refit sheet start (length old)) → new ≡ after_loading (refit sheet start (length old)) old → SameLoading sheet start l r old new
+    pub same-loading : {r : Result Refitted Refusal} → r ≡ refit_answer (refit sheet start (length old)) → new ≡ after_loading (refit sheet start (length old)) old → SameLoading sheet start l r old new
     same-loading a n = record {
       same_bytes = n ∙ ap (λ (x : Loading). after_loading x old) refit-is ∙ same (λ t. table_bytes (tones l) t ++ drop (bytes_a_tone * l.size) old) ∙ sym (ap (λ (x : Loading). after_loading x old) (most-is sheet (length old) l e h));
       same_totals = rw (refit-is, most-is sheet (length old) l e h, D.same_table);
@@ -73,7 +75,7 @@ module _ (sheet : List ℕ) (b : Bytes sheet) (l : Line) (e : reading sheet ≡ 
   from-none : Demand3 (tones l) l.budget (no_bits (tones l))
   from-none = line-demand-3 l in_range rests-fit (no_bits (tones l)) (no-bits-keep l in_range)
 
-  pub most-bits : {r : Loaded} → r ≡ load_answer (load_most sheet (length old)) → new ≡ after_loading (load_most sheet (length old)) old → MostBits (tones l) l.budget r old new
+  pub most-bits : {r : Result Totals Refusal} → r ≡ load_answer (load_most sheet (length old)) → new ≡ after_loading (load_most sheet (length old)) old → MostBits (tones l) l.budget r old new
   most-bits a n = record {
     answers = a ∙ ap load_answer (most-is sheet (length old) l e h);
     front = ap (take (bytes_a_tone * l.size)) (n ∙ ap (λ (x : Loading). after_loading x old) (most-is sheet (length old) l e h)) ∙ take_at _ _ _ (length-entries (tones l) (most_bits (tones l) l.budget).table l.size);
@@ -83,7 +85,7 @@ module _ (sheet : List ℕ) (b : Bytes sheet) (l : Line) (e : reading sheet ≡ 
     added = from-none.added;
   }
 
-  pub target-met : (target : ℕ) {r : Loaded} → r ≡ load_answer (load_target sheet target (length old)) → TargetMet (tones l) l.budget target r
+  pub target-met : (target : ℕ) {r : Result Totals Refusal} → r ≡ load_answer (load_target sheet target (length old)) → TargetMet (tones l) l.budget target r
   unfolding load_target target_on
   target-met target a = record {
     answers = simp (e, le-ltb (length old) (bytes_a_tone * l.size) h) at a;
@@ -91,7 +93,7 @@ module _ (sheet : List ℕ) (b : Bytes sheet) (l : Line) (e : reading sheet ≡ 
   }
 
 -- W9: what holds of the guarded loading of an accepted sheet whose table has room
-pub guarded-met : (sheet : List ℕ) (b : Bytes sheet) (l : Line) (e : reading sheet ≡ accepted l) (old new : List ℕ) (h : bytes_a_tone * l.size ≤ length old) {r : GuardedLoad}
+pub guarded-met : (sheet : List ℕ) (b : Bytes sheet) (l : Line) (e : reading sheet ≡ accepted l) (old new : List ℕ) (h : bytes_a_tone * l.size ≤ length old) {r : Result GuardedLoad Refusal}
     → r ≡ guarded_answer (plain_bits (reading sheet)) (guarding (reading sheet) (length old)) → new ≡ after_loading (guarding (reading sheet) (length old)) old → GuardedMet l r new
 unfolding guarding most_on
 guarded-met sheet b l e old new h a n = record {
@@ -105,26 +107,26 @@ guarded-met sheet b l e old new h a n = record {
 
 -- ---- what each call has to show: its answer, that in the paper's numbers, the buffer, and its promise
 
-abbrev LoadCall : Loaded → (old new : List ℕ) → Loading → Type 0 → Type 0
+abbrev LoadCall : Result Totals Refusal → (old new : List ℕ) → Loading → Type 0 → Type 0
 LoadCall r old new x Promise = (r ≡ load_answer x) × ((load_numbers r ≡ load_outcome x) × ((new ≡ after_loading x old) × Promise))
 
-abbrev RefitCall : Refitted → Loading → Type 0 → Type 0
+abbrev RefitCall : Result Refitted Refusal → Loading → Type 0 → Type 0
 RefitCall r x Rest = (r ≡ refit_answer x) × ((refit_numbers r ≡ refit_outcome x) × Rest)
 
 module _ (s : List ℕ) (b : Bytes s) (old new : List ℕ) where
-  pub most-call : {r : Loaded} → LoadsAs r old new (load_most s) → LoadCall r old new (load_most s (length old)) (MostBitsOn s r old new)
+  pub most-call : {r : Result Totals Refusal} → LoadsAs r old new (load_most s) → LoadCall r old new (load_most s (length old)) (MostBitsOn s r old new)
   most-call p = (p.answer, (p.numbers, (p.bytes, λ l e h. most-bits s b l e old new h p.answer p.bytes)))
 
-  pub target-call : (target : ℕ) {r : Loaded} → LoadsAs r old new (load_target s target) → LoadCall r old new (load_target s target (length old)) (TargetOn s target r old)
+  pub target-call : (target : ℕ) {r : Result Totals Refusal} → LoadsAs r old new (load_target s target) → LoadCall r old new (load_target s target (length old)) (TargetOn s target r old)
   target-call target p = (p.answer, (p.numbers, (p.bytes, λ l e h. target-met s b l e old new h target p.answer)))
 
-  pub refit-call : (start : List ℕ) {r : Refitted} → RefitsAs r old new (refit_by most_bits_of_all s start)
+  pub refit-call : (start : List ℕ) {r : Result Refitted Refusal} → RefitsAs r old new (refit_by most_bits_of_all s start)
       → RefitCall r (refit s start (length old)) ((new ≡ after_loading (refit s start (length old)) old) × Demand3On s start r old new)
   refit-call start {r} x =
       let p : RefitsAs r old new (refit s start) = rw (whole s b start) at x in
       (p.answer, (p.numbers, (p.bytes, λ l e h w. same-loading s b l e old new h start w p.answer p.bytes)))
 
-  pub step_call : (start : List ℕ) {r : Refitted} → RefitsAs r old new (refit_by 1 s start)
+  pub step_call : (start : List ℕ) {r : Result Refitted Refusal} → RefitsAs r old new (refit_by 1 s start)
       → RefitCall r (one_step s start (length old)) (new ≡ after_loading (one_step s start (length old)) old)
   step_call start {r} x =
       let p : RefitsAs r old new (one_step s start) = rw (single s start) at x in

@@ -15,14 +15,15 @@ ghost use Rattle.loader.specs.Calls.{load_most, load_target, refit, one_step, re
 ghost use Rattle.loader.specs.Claims.{MostBitsOn, TargetOn, Demand3On, BudgetsOn, GuardedOn, TidyOn};
 
 use guarded::GuardedLoad;
-use loadings::{Loaded, Refitted};
-use refusals::WriteAnswer;
-use sheet::{Checked, Read};
+use line::Steps;
+use loadings::Refitted;
+use refusals::Refusal;
+use running::Totals;
+use sheet::Checked;
 use sizes::{MOST_BITS, TONES};
-use tidy::Tidied;
 
 // Checks a sheet: N, the number of described tones and the number of silenced tones.
-pub fn check(s: &[u8]) -> Checked
+pub fn check(s: &[u8]) -> Result<Checked, Refusal>
     ensures answer { result ≡ checking (reading s.now) }
     ensures numbers { check_numbers result ≡ check_outcome (reading s.now) }
 {
@@ -30,87 +31,48 @@ pub fn check(s: &[u8]) -> Checked
 }
 
 // Loads a sheet for most bits.
-pub fn load_most(s: &[u8], table: &mut [u8]) -> Loaded
+pub fn load_most(s: &[u8], table: &mut [u8]) -> Result<Totals, Refusal>
     ensures answer { result ≡ load_answer (load_most s.now (length table.old)) }
     ensures numbers { load_numbers result ≡ load_outcome (load_most s.now (length table.old)) }
     ensures bytes { table.new ≡ after_loading (load_most s.now (length table.old)) table.old }
     ensures most_bits { MostBitsOn s.now result table.old table.new }
 {
-    let mut limits: [u8; TONES] = [0; TONES];
-    let mut costs: [u32; TONES] = [0; TONES];
-    let mut doublings: [u8; TONES] = [0; TONES];
-    let mut rests: [u32; TONES] = [0; TONES];
-    let read = arrays::read_tones(s, &mut limits, &mut costs, &mut doublings, &mut rests);
-    match read {
-        Read::Refused(refusal) => Loaded::Refused(refusal),
-        Read::Accepted(header) => loadings::most(
-            header.size,
-            header.budget,
-            &limits,
-            &costs,
-            &doublings,
-            &rests,
-            table,
-        ),
-    }
+    let mut tones = [Steps::NONE; TONES];
+    let header = arrays::read_tones(s, &mut tones)?;
+    loadings::most(header.budget, &tones[..header.size as usize], table)
 }
 
 // Loads a set number of bits.
-pub fn load_target(s: &[u8], target: u32, table: &mut [u8]) -> Loaded
+pub fn load_target(s: &[u8], target: u32, table: &mut [u8]) -> Result<Totals, Refusal>
     ensures answer { result ≡ load_answer (load_target s.now target (length table.old)) }
     ensures numbers { load_numbers result ≡ load_outcome (load_target s.now target (length table.old)) }
     ensures bytes { table.new ≡ after_loading (load_target s.now target (length table.old)) table.old }
     ensures least_power { TargetOn s.now target result table.old }
 {
-    let mut limits: [u8; TONES] = [0; TONES];
-    let mut costs: [u32; TONES] = [0; TONES];
-    let mut doublings: [u8; TONES] = [0; TONES];
-    let mut rests: [u32; TONES] = [0; TONES];
-    let read = arrays::read_tones(s, &mut limits, &mut costs, &mut doublings, &mut rests);
-    match read {
-        Read::Refused(refusal) => Loaded::Refused(refusal),
-        Read::Accepted(header) => loadings::target(
-            header.size,
-            header.budget,
-            &limits,
-            &costs,
-            &doublings,
-            &rests,
-            target,
-            table,
-        ),
-    }
+    let mut tones = [Steps::NONE; TONES];
+    let header = arrays::read_tones(s, &mut tones)?;
+    loadings::target(header.budget, &tones[..header.size as usize], target, table)
 }
 
 // Re-fits a starting table by at most so many moves.
-fn refit_up_to(s: &[u8], start: &[u8], most: u32, table: &mut [u8]) -> Refitted
+fn refit_up_to(s: &[u8], start: &[u8], most: u32, table: &mut [u8]) -> Result<Refitted, Refusal>
     ensures { RefitsAs result table.old table.new (refit_by most s.now start.now) }
 {
-    let mut limits: [u8; TONES] = [0; TONES];
-    let mut costs: [u32; TONES] = [0; TONES];
-    let mut doublings: [u8; TONES] = [0; TONES];
-    let mut rests: [u32; TONES] = [0; TONES];
-    let read = arrays::read_tones(s, &mut limits, &mut costs, &mut doublings, &mut rests);
-    match read {
-        Read::Refused(refusal) => Refitted::Refused(refusal),
-        Read::Accepted(header) => loadings::refit(
-            header.size,
-            header.budget,
-            &limits,
-            &costs,
-            &doublings,
-            &rests,
-            start,
-            most,
-            table,
-        ),
-    }
+    let mut tones = [Steps::NONE; TONES];
+    let header = arrays::read_tones(s, &mut tones)?;
+    loadings::refit(
+        header.budget,
+        &tones[..header.size as usize],
+        start,
+        most,
+        table,
+    )
 }
 
 // Re-fits a starting table, and counts the moves. Demand 3 is its last promise: of every accepted sheet and every starting table
 // that keeps its limits, with room enough, the table and the totals are those of the loading for most bits. As many moves as a line can
 // have bits are enough.
-pub fn refit(s: &[u8], start: &[u8], table: &mut [u8]) -> Refitted
+pub fn refit(s: &[u8], start: &[u8], table: &mut [u8]) -> Result<Refitted, Refusal>
     ensures answer { result ≡ refit_answer (refit s.now start.now (length table.old)) }
     ensures numbers { refit_numbers result ≡ refit_outcome (refit s.now start.now (length table.old)) }
     ensures bytes { table.new ≡ after_loading (refit s.now start.now (length table.old)) table.old }
@@ -120,7 +82,7 @@ pub fn refit(s: &[u8], start: &[u8], table: &mut [u8]) -> Refitted
 }
 
 // One step of a re-fit: its move count is 1 or 0.
-pub fn refit_step(s: &[u8], start: &[u8], table: &mut [u8]) -> Refitted
+pub fn refit_step(s: &[u8], start: &[u8], table: &mut [u8]) -> Result<Refitted, Refusal>
     ensures answer { result ≡ refit_answer (one_step s.now start.now (length table.old)) }
     ensures numbers { refit_numbers result ≡ refit_outcome (one_step s.now start.now (length table.old)) }
     ensures bytes { table.new ≡ after_loading (one_step s.now start.now (length table.old)) table.old }
@@ -129,7 +91,7 @@ pub fn refit_step(s: &[u8], start: &[u8], table: &mut [u8]) -> Refitted
 }
 
 // Writes the limit of each tone of a sheet, and what set it.
-pub fn limits(s: &[u8], out: &mut [u8]) -> WriteAnswer
+pub fn limits(s: &[u8], out: &mut [u8]) -> Result<(), Refusal>
     ensures answer { result ≡ write_answer (limiting (reading s.now) (length out.old)) }
     ensures numbers { write_numbers result ≡ write_outcome (limiting (reading s.now) (length out.old)) }
     ensures bytes { out.new ≡ after_writing (limiting (reading s.now) (length out.old)) out.old }
@@ -138,7 +100,7 @@ pub fn limits(s: &[u8], out: &mut [u8]) -> WriteAnswer
 }
 
 // Writes total bits and total power of the loading for most bits at each budget of a list, in the place of the sheet's own, in one adding pass.
-pub fn budgets(s: &[u8], list: &[u8], out: &mut [u8]) -> WriteAnswer
+pub fn budgets(s: &[u8], list: &[u8], out: &mut [u8]) -> Result<(), Refusal>
     ensures answer { result ≡ write_answer (budgeting s.now list.now (length out.old)) }
     ensures numbers { write_numbers result ≡ write_outcome (budgeting s.now list.now (length out.old)) }
     ensures bytes { out.new ≡ after_writing (budgeting s.now list.now (length out.old)) out.old }
@@ -149,7 +111,7 @@ pub fn budgets(s: &[u8], list: &[u8], out: &mut [u8]) -> WriteAnswer
 
 // Loads a sheet for most bits at every high noise; of its table no choice of noises inside their ranges breaks the limits or the budget. It
 // answers the total bits of the plain loading too.
-pub fn guarded(s: &[u8], table: &mut [u8]) -> GuardedLoad
+pub fn guarded(s: &[u8], table: &mut [u8]) -> Result<GuardedLoad, Refusal>
     ensures answer { result ≡ guarded_answer (plain_bits (reading s.now)) (guarding (reading s.now) (length table.old)) }
     ensures numbers { guarded_numbers result ≡ guarded_outcome (plain_bits (reading s.now)) (guarding (reading s.now) (length table.old)) }
     ensures bytes { table.new ≡ after_loading (guarding (reading s.now) (length table.old)) table.old }
@@ -159,7 +121,7 @@ pub fn guarded(s: &[u8], table: &mut [u8]) -> GuardedLoad
 }
 
 // Writes the tidy form of a sheet.
-pub fn tidy(s: &[u8], out: &mut [u8]) -> Tidied
+pub fn tidy(s: &[u8], out: &mut [u8]) -> Result<usize, Refusal>
     ensures answer { result ≡ tidy_answer (tidying (reading s.now) (length out.old)) }
     ensures numbers { tidy_numbers result ≡ tidy_outcome (tidying (reading s.now) (length out.old)) }
     ensures bytes { out.new ≡ after_writing (tidying (reading s.now) (length out.old)) out.old }

@@ -10,6 +10,7 @@ use native.Mathlib.Decide.{ℕ_discrete}
 use native.Mathlib.Omega.{arith}
 use borrow.Author.Tests.{lt-ltb, le-ltb, eq-eqb, ne_eqb}
 use lib.ListN.{length, drop}
+use Rattle.std.specs.Prelude.{Some, None, Result, Ok, Err}
 use Rattle.sizes.specs.Sizes.{bytes_a_tone}
 use Rattle.steps.specs.Tones.{Tones, Table, no_bits, total_bits}
 use Rattle.steps.specs.Runs.{Ran, add_step, refit_step, run, most_bits, carrying}
@@ -17,15 +18,13 @@ use Rattle.line.specs.Arrays.{Arrays}
 use Rattle.refusals.specs.declared.Refusal.{Refusal}
 use Rattle.refusals.specs.declared.Refusal.TheVariants.{DestinationTooSmall, StartLengthWrong, StartAboveLimit, TargetNotCarried}
 use Rattle.running.specs.declared.Running.{Running}
+use Rattle.running.specs.declared.Totals.{Totals}
 use Rattle.running.specs.Running.{Stands}
 use Rattle.starts.specs.Starts.{first_above}
 use Rattle.tables.specs.Tables.{table_bytes, WritesTable}
 use Rattle.tables.proofs.Entries.{table-written}
-use Rattle.loadings.specs.declared.Loaded.{Loaded}
-use Rattle.loadings.specs.declared.Loaded.TheVariants as load
 use Rattle.loadings.specs.declared.Refitted.{Refitted}
-use Rattle.loadings.specs.declared.Refitted.TheVariants as re-fit
-use Rattle.loadings.specs.Loads.{Loading, loaded, turned_down, most_on, on_target, target_on, Loadable, LoadsAs, load_answer, load_outcome, load_numbers, after_loading}
+use Rattle.loadings.specs.Loads.{Loading, loaded, turned_down, most_on, on_target, target_on, Loadable, LoadsAs, totals_of, load_answer, load_outcome, load_numbers, after_loading}
 use Rattle.loadings.specs.Refits.{refit_up_to, RefitsAs, refit_answer, refit_outcome, refit_numbers}
 use Rattle.loadings.proofs.Runs.{target_run}
 
@@ -40,16 +39,16 @@ refit-numbers (loaded T r) = refl
 refit-numbers (turned_down q) = refl
 
 module _ (on : (room : ℕ) → Loading) (old : List ℕ) where
-  loads-as : {r : Loaded} {new : List ℕ} → r ≡ load_answer (on (length old)) → new ≡ after_loading (on (length old)) old → LoadsAs r old new on
+  loads-as : {r : Result Totals Refusal} {new : List ℕ} → r ≡ load_answer (on (length old)) → new ≡ after_loading (on (length old)) old → LoadsAs r old new on
   loads-as a b = record { answer = a; numbers = ap load_numbers a ∙ load-numbers (on (length old)); bytes = b }
 
-  refits-as : {r : Refitted} {new : List ℕ} → r ≡ refit_answer (on (length old)) → new ≡ after_loading (on (length old)) old → RefitsAs r old new on
+  refits-as : {r : Result Refitted Refusal} {new : List ℕ} → r ≡ refit_answer (on (length old)) → new ≡ after_loading (on (length old)) old → RefitsAs r old new on
   refits-as a b = record { answer = a; numbers = ap refit_numbers a ∙ refit-numbers (on (length old)); bytes = b }
 
-  pub load-refused : {r : Refusal} → on (length old) ≡ turned_down r → LoadsAs (load.Refused r) old old on
+  pub load-refused : {r : Refusal} → on (length old) ≡ turned_down r → LoadsAs (Err r) old old on
   load-refused e = loads-as (simp e) (simp e)
 
-  pub refit-refused : {r : Refusal} → on (length old) ≡ turned_down r → RefitsAs (re-fit.Refused r) old old on
+  pub refit-refused : {r : Refusal} → on (length old) ≡ turned_down r → RefitsAs (Err r) old old on
   refit-refused e = refits-as (simp e) (simp e)
 
 -- the running table of a run, and the buffer that it was written to
@@ -65,11 +64,14 @@ module _ {count : ℕ} {A : Arrays} {T : Tones} {ran : Ran} {r : Running} {old n
       W.written T ran.table W.stands.table
       ∙ table-written T ran.table old (omega (arith, W.room, W.stands.table.describes.same_count))
 
-  pub load-done : LoadsAs (load.Totals r.totals.bits r.totals.power) old new on
-  load-done = loads-as on old (simp (e, W.stands.sums.same_bits, W.stands.sums.same_power)) (simp e buffer)
+  totals : r.totals ≡ totals_of T ran.table
+  totals = rw (W.stands.sums.same_bits, W.stands.sums.same_power) refl
 
-  pub refit-done : {moves : ℕ} → moves ≡ ran.moves → RefitsAs (re-fit.Totals r.totals.bits r.totals.power moves) old new on
-  refit-done m = refits-as on old (simp (e, W.stands.sums.same_bits, W.stands.sums.same_power, m)) (simp e buffer)
+  pub load-done : LoadsAs (Ok r.totals) old new on
+  load-done = loads-as on old (simp e (ap Ok totals)) (simp e buffer)
+
+  pub refit-done : {moves : ℕ} → moves ≡ ran.moves → RefitsAs (Ok (record { totals = r.totals; moves = moves })) old new on
+  refit-done m = refits-as on old (simp (e, m) (ap (λ (s : Totals). Ok (record { totals = s; moves = ran.moves })) totals)) (simp e buffer)
 
 -- ---- which outcome it is, for so many tones in a buffer of so many bytes
 
@@ -121,10 +123,10 @@ module _ {count budget : ℕ} {A : Arrays} {T : Tones} (L : Loadable count budge
         same : length start ≡ T.count
         same = omega (arith, L.describes.same_count)
 
-        pub refit-above : {i : ℕ} → first_above T start T.count ≡ some i → refit_up_to most T budget start room ≡ turned_down (StartAboveLimit i)
+        pub refit-above : {i : ℕ} → first_above T start T.count ≡ Some i → refit_up_to most T budget start room ≡ turned_down (StartAboveLimit i)
         unfolding refit_up_to
         refit-above a = simp (le-ltb room (bytes_a_tone * T.count) (fits h), eq-eqb (length start) T.count same, a)
 
-        pub refit-fits : first_above T start T.count ≡ none → refit_up_to most T budget start room ≡ loaded T (run (refit_step T budget) most start)
+        pub refit-fits : first_above T start T.count ≡ None → refit_up_to most T budget start room ≡ loaded T (run (refit_step T budget) most start)
         unfolding refit_up_to
         refit-fits a = simp (le-ltb room (bytes_a_tone * T.count) (fits h), eq-eqb (length start) T.count same, a)

@@ -7,6 +7,7 @@ use native.Mathlib.Decide.{dec_lt}
 use native.Mathlib.Nat.{le_of_lt, mul-le-mul_left, le_trans}
 use native.Mathlib.Omega.{arith}
 use borrow.Author.Tests.{lt-ltb, le-ltb}
+use lib.ListN.{length, take}
 use Rattle.sizes.specs.Sizes.{most_tones, pair_cap, most_bits_of_all}
 use Rattle.steps.specs.Tones.{Tones, Table, ◌!◌, no_bits, total_bits, total_power, sum_of_limits, KeepsLimits}
 use Rattle.steps.specs.Runs.{Answer, moved, finished, add_step, Ran, follow, run, most_bits, carrying, set_bits}
@@ -15,7 +16,7 @@ use Rattle.steps.proofs.Sums.{sum-at-most}
 use Rattle.line.specs.Line.{Line, tones, rest_total, LineInRange}
 use Rattle.line.specs.Arrays.{Arrays, limit_at, doublings_at, RestsInRange, PowersInRange, ArraysOf}
 use Rattle.line.proofs.Powers.{power-high}
-use Rattle.line.proofs.Arrays.{stands-under, limit-small, shift-under, line-arrays-in-range, line-describes}
+use Rattle.line.proofs.Arrays.{stands-under, limit-small, shift-under, front-sized, front-in-range, front-describes}
 use Rattle.line.proofs.Loads.{line-rising, no-bits-fit}
 use Rattle.running.specs.declared.Running.{Running}
 use Rattle.running.specs.declared.Progress.{Progress}
@@ -63,11 +64,11 @@ module _ {count budget : ℕ} {A : Arrays} {T : Tones} (L : Loadable count budge
   none-stands h = h T L.describes L.rising
 
   -- the rests of the tones are in range
-  pub rests-high : RestsInRange count A.rests
+  pub rests-high : RestsInRange count A
   rests-high = record { rest_high = L.in_range.rest_high }
 
   -- the powers of a running table that stands for a table of T are in range
-  pub writable : {r : Running} {t : Table} → Stands count A r T t → PowersInRange count A.costs A.doublings A.rests r.bits
+  pub writable : {r : Running} {t : Table} → Stands count A r T t → PowersInRange count A r.bits
   writable S =
       let I = L.in_range in
       record { cost_high = I.cost_high; shift_high = shift-under I (stands-under S.table); rest_high = I.rest_high }
@@ -86,14 +87,15 @@ module _ {count budget : ℕ} {A : Arrays} {T : Tones} (L : Loadable count budge
 
 -- ---- the tones of a line
 
--- those of a line in range are loadable within any budget that its rests keep
-pub line-loadable : (l : Line) → LineInRange l → (budget : ℕ) → rest_total l ≤ budget → {A : Arrays} → ArraysOf l A → Loadable l.size budget A (tones l)
-line-loadable l I budget fits {A} h = record {
-  in_range = line-arrays-in-range l I A h;
-  describes = line-describes l I A h;
+-- those of a line in range are loadable within any budget that its rests keep, from the front of its array
+pub line-loadable : (l : Line) → LineInRange l → (budget : ℕ) → rest_total l ≤ budget → {A : Arrays} → ArraysOf l A
+    → Loadable (length (take l.size A)) budget (take l.size A) (tones l)
+line-loadable l I budget fits {A} h = rw (front-sized l I A h) (record {
+  in_range = front-in-range l I A h;
+  describes = front-describes l I A h;
   rising = line-rising l I;
   none_fits = no-bits-fit l budget fits;
-}
+})
 
 -- ---- what the last step of a run answers
 

@@ -2,12 +2,12 @@
 -- Assumes nothing.
 use mathlib.Core.Bool.{Bool, true, false, cond}
 use mathlib.Core.List.{List}
-use mathlib.Core.Option.{Option, none, some}
 use mathlib.Core.Path.{◌≡◌, refl, ap}
 use Prim.Native.Nat.{ℕ, ◌≤◌}
 use borrow.Author.Tests.{eqb-true}
 use lib.Dec.{eqb}
 use lib.ListN.{length}
+use Rattle.std.specs.Prelude.{Option, Some, None}
 use Rattle.sizes.specs.Sizes.{most_bits_of_all}
 use Rattle.steps.specs.Tones.{Tones, Rising, no_bits, sum_of_limits, KeepsLimits, KeepsBudget}
 use Rattle.steps.specs.Runs.{Ran, refit_step}
@@ -24,9 +24,9 @@ same-refit : (T : Tones) (start : List ℕ) (room : ℕ) {a b : Ran} → (KeepsL
 same-refit T start room {a} {b} same =
     ap (if_room T room) (by_length (eqb (length start) T.count) (λ e. by-above (eqb-true (length start) T.count e) (first_above T start T.count) (λ n. n)))
   where
-    by-above : length start ≡ T.count → (o : Option ℕ) → (o ≡ none → first_above T start T.count ≡ none) → on_above o (loaded T a) ≡ on_above o (loaded T b)
-    by-above e none f = ap (loaded T) (same (none-keeps T start e (f refl)))
-    by-above e (some i) f = refl
+    by-above : length start ≡ T.count → (o : Option ℕ) → (o ≡ None → first_above T start T.count ≡ None) → on_above o (loaded T a) ≡ on_above o (loaded T b)
+    by-above e None f = ap (loaded T) (same (none-keeps T start e (f refl)))
+    by-above e (Some i) f = refl
 
     by_length : (t : Bool) {x y : Loading} → (t ≡ true → x ≡ y) → cond t x (turned_down StartLengthWrong) ≡ cond t y (turned_down StartLengthWrong)
     by_length true f = f refl

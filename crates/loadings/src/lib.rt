@@ -2,186 +2,100 @@
 // is turned down'.
 #![tactic(auto)]
 
-ghost use Rattle.std.specs.Prelude.{◌≡◌};
+ghost use Rattle.std.specs.Prelude.{◌≡◌, length};
 ghost use Rattle.steps.specs.Tones.{total_bits};
 ghost use Rattle.steps.specs.Runs.{most_bits};
-ghost use Rattle.line.specs.Arrays.{arrays};
 ghost use Rattle.loadings.specs.Loads.{most_on, target_on, SomeTones, ForTones, LoadsAs};
 ghost use Rattle.loadings.specs.Refits.{RefitsTones};
 
+use line::Steps;
 use moves::Rule;
 use refusals::Refusal;
-use running::Progress;
-use sizes::{MOST_BITS, TONE_BYTES, TONES};
-use starts::Above;
+use running::{Progress, Totals};
+use sizes::{MOST_BITS, TONE_BYTES};
 
-// What a loading answers: total bits and total power; or why it is refused.
+// What a re-fit answers: total bits and total power, and the move count.
 #[derive(Clone, Copy)]
-pub enum Loaded {
-    Totals(u32, u64),
-    Refused(Refusal),
-}
-
-// What a re-fit answers: total bits, total power and the move count; or why it is refused.
-#[derive(Clone, Copy)]
-pub enum Refitted {
-    Totals(u32, u64, u32),
-    Refused(Refusal),
+pub struct Refitted {
+    pub totals: Totals,
+    pub moves: u32,
 }
 
 // Loads for most bits.
-pub fn most(
-    size: u16,
-    budget: u64,
-    limits: &[u8; TONES],
-    costs: &[u32; TONES],
-    doublings: &[u8; TONES],
-    rests: &[u32; TONES],
-    table: &mut [u8],
-) -> Loaded
-    requires { SomeTones size budget (arrays limits.now costs.now doublings.now rests.now) }
-    ensures { ForTones size budget (arrays limits.now costs.now doublings.now rests.now) (λ T. LoadsAs result table.old table.new (most_on T budget)) }
+pub fn most(budget: u64, tones: &[Steps], table: &mut [u8]) -> Result<Totals, Refusal>
+    requires { SomeTones (length tones.now) budget tones.now }
+    ensures { ForTones (length tones.now) budget tones.now (λ T. LoadsAs result table.old table.new (most_on T budget)) }
 {
-    let count = size as usize;
-    if table.len() < TONE_BYTES * count {
-        return Loaded::Refused(Refusal::DestinationTooSmall);
+    if table.len() < TONE_BYTES * tones.len() {
+        return Err(Refusal::DestinationTooSmall);
     }
-    let start = starts::no_bits(count, rests);
-    let ended = wholeruns::run(
-        start,
-        Rule::Add,
-        MOST_BITS,
-        budget,
-        count,
-        limits,
-        costs,
-        doublings,
-        rests,
-    );
-    let running = ended.running;
-    let bits = running.bits;
-    tables::put_table(table, count, costs, doublings, rests, &bits);
-    let totals = running.totals;
-    Loaded::Totals(totals.bits, totals.power)
+    let start = starts::no_bits(tones);
+    let ended = wholeruns::run(start, Rule::Add, MOST_BITS, budget, tones);
+    tables::put_table(table, tones, &ended.running.bits);
+    Ok(ended.running.totals)
 }
 
 // The total bits of the loading for most bits, which is not written.
-pub fn most_bits(
-    size: u16,
-    budget: u64,
-    limits: &[u8; TONES],
-    costs: &[u32; TONES],
-    doublings: &[u8; TONES],
-    rests: &[u32; TONES],
-) -> u32
-    requires { SomeTones size budget (arrays limits.now costs.now doublings.now rests.now) }
-    ensures { ForTones size budget (arrays limits.now costs.now doublings.now rests.now) (λ T. result ≡ total_bits T (most_bits T budget).table) }
+pub fn most_bits(budget: u64, tones: &[Steps]) -> u32
+    requires { SomeTones (length tones.now) budget tones.now }
+    ensures { ForTones (length tones.now) budget tones.now (λ T. result ≡ total_bits T (most_bits T budget).table) }
 {
-    let count = size as usize;
-    let start = starts::no_bits(count, rests);
-    let most = MOST_BITS;
-    let ended = wholeruns::run(
-        start,
-        Rule::Add,
-        most,
-        budget,
-        count,
-        limits,
-        costs,
-        doublings,
-        rests,
-    );
-    let running = ended.running;
-    let totals = running.totals;
-    totals.bits
+    let start = starts::no_bits(tones);
+    wholeruns::run(start, Rule::Add, MOST_BITS, budget, tones)
+        .running
+        .totals
+        .bits
 }
 
-// Loads a set number of bits.
+// Loads a set number of bits: a run that is still moving when it has made so many moves.
 pub fn target(
-    size: u16,
     budget: u64,
-    limits: &[u8; TONES],
-    costs: &[u32; TONES],
-    doublings: &[u8; TONES],
-    rests: &[u32; TONES],
+    tones: &[Steps],
     target: u32,
     table: &mut [u8],
-) -> Loaded
-    requires { SomeTones size budget (arrays limits.now costs.now doublings.now rests.now) }
-    ensures { ForTones size budget (arrays limits.now costs.now doublings.now rests.now) (λ T. LoadsAs result table.old table.new (target_on T budget target)) }
+) -> Result<Totals, Refusal>
+    requires { SomeTones (length tones.now) budget tones.now }
+    ensures { ForTones (length tones.now) budget tones.now (λ T. LoadsAs result table.old table.new (target_on T budget target)) }
 {
-    let count = size as usize;
-    if table.len() < TONE_BYTES * count {
-        return Loaded::Refused(Refusal::DestinationTooSmall);
+    if table.len() < TONE_BYTES * tones.len() {
+        return Err(Refusal::DestinationTooSmall);
     }
-    let start = starts::no_bits(count, rests);
-    let ended = wholeruns::run(
-        start,
-        Rule::Add,
-        target,
-        budget,
-        count,
-        limits,
-        costs,
-        doublings,
-        rests,
-    );
-    let progress = ended.progress;
-    match progress {
-        Progress::Finished => Loaded::Refused(Refusal::TargetNotCarried),
+    let start = starts::no_bits(tones);
+    let ended = wholeruns::run(start, Rule::Add, target, budget, tones);
+    match ended.progress {
+        Progress::Finished => Err(Refusal::TargetNotCarried),
         Progress::Moved => {
-            let running = ended.running;
-            let bits = running.bits;
-            tables::put_table(table, count, costs, doublings, rests, &bits);
-            let totals = running.totals;
-            Loaded::Totals(totals.bits, totals.power)
+            tables::put_table(table, tones, &ended.running.bits);
+            Ok(ended.running.totals)
         }
     }
 }
 
 // Re-fits a starting table by at most so many moves.
 pub fn refit(
-    size: u16,
     budget: u64,
-    limits: &[u8; TONES],
-    costs: &[u32; TONES],
-    doublings: &[u8; TONES],
-    rests: &[u32; TONES],
+    tones: &[Steps],
     start: &[u8],
     most: u32,
     table: &mut [u8],
-) -> Refitted
-    requires { SomeTones size budget (arrays limits.now costs.now doublings.now rests.now) }
-    ensures { RefitsTones size most budget (arrays limits.now costs.now doublings.now rests.now) start.now result table.old table.new }
+) -> Result<Refitted, Refusal>
+    requires { SomeTones (length tones.now) budget tones.now }
+    ensures { RefitsTones (length tones.now) most budget tones.now start.now result table.old table.new }
 {
-    let count = size as usize;
-    if table.len() < TONE_BYTES * count {
-        return Refitted::Refused(Refusal::DestinationTooSmall);
+    if table.len() < TONE_BYTES * tones.len() {
+        return Err(Refusal::DestinationTooSmall);
     }
-    if start.len() != count {
-        return Refitted::Refused(Refusal::StartLengthWrong);
+    if start.len() != tones.len() {
+        return Err(Refusal::StartLengthWrong);
     }
-    let above = starts::first_above(start, limits);
-    match above {
-        Above::Tone(tone) => Refitted::Refused(Refusal::StartAboveLimit(tone as u16)),
-        Above::Nowhere => {
-            let from = starts::from_start(start, costs, doublings, rests);
-            let ended = wholeruns::run(
-                from,
-                Rule::Refit,
-                most,
-                budget,
-                count,
-                limits,
-                costs,
-                doublings,
-                rests,
-            );
-            let running = ended.running;
-            let bits = running.bits;
-            tables::put_table(table, count, costs, doublings, rests, &bits);
-            let totals = running.totals;
-            Refitted::Totals(totals.bits, totals.power, ended.moves)
-        }
+    if let Some(tone) = starts::first_above(start, tones) {
+        return Err(Refusal::StartAboveLimit(tone as u16));
     }
+    let from = starts::from_start(start, tones);
+    let ended = wholeruns::run(from, Rule::Refit, most, budget, tones);
+    tables::put_table(table, tones, &ended.running.bits);
+    Ok(Refitted {
+        totals: ended.running.totals,
+        moves: ended.moves,
+    })
 }

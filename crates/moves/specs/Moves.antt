@@ -1,7 +1,7 @@
 -- The rules by name, what the code knows of a table when it asks for the next move, and what a move says.
 -- Assumes nothing.
 use Rattle.std.proofs.Math.Option.{some}
-use Rattle.std.specs.Prelude.{◌≡◌, ℕ, ◌-◌, ◌%◌, ◌/◌, ◌^◌, ◌≤◌, ◌<◌}
+use Rattle.std.specs.Prelude.{◌≡◌, ℕ, ◌-◌, ◌%◌, ◌/◌, ◌^◌, ◌≤◌, ◌<◌, Option, Some, None}
 use Rattle.sizes.specs.Sizes.{most_tones}
 use Rattle.steps.specs.Tones.{Tones, step, Rising, Before, Table, ◌!◌, total_power, KeepsLimits}
 use Rattle.steps.specs.Runs as rule
@@ -10,7 +10,7 @@ use Rattle.moves.specs.declared.Rule.{Rule}
 use Rattle.moves.specs.declared.Rule.TheVariants.{Add, Refit}
 use Rattle.moves.specs.declared.Step.{Step}
 use Rattle.moves.specs.declared.Move.{Move}
-use Rattle.moves.specs.declared.Move.TheVariants.{Nothing, Take, GiveUp, Exchange}
+use Rattle.moves.specs.declared.Move.TheVariants.{Take, GiveUp, Exchange}
 
 -- the rule that a name stands for
 abbrev pub rule_of : Rule → Tones → (budget : ℕ) → Table → rule.Answer
@@ -55,9 +55,9 @@ pub record Exchanges (T : Tones) (t : Table) (h f : Step) : Type 0 where
   pub takes : Takes T t f
   pub before : Before T f.tone (t ! f.tone) h.tone (t ! h.tone - 1)
 
--- A move is the one that a rule's answer for table t calls for.
-abbrev pub CallsFor : Tones → Table → Move → rule.Answer → Type 0
-CallsFor T t Nothing a = a ≡ rule.finished
-CallsFor T t (Take f) a = (a ≡ rule.moved (rule.taking t f.tone)) × Takes T t f
-CallsFor T t (GiveUp h) a = (a ≡ rule.moved (rule.giving_up t h.tone)) × GivesUp T t h
-CallsFor T t (Exchange h f) a = (a ≡ rule.moved (rule.taking (rule.giving_up t h.tone) f.tone)) × Exchanges T t h f
+-- A move is the one that a rule's answer for table t calls for; no move is what 'finished' calls for.
+abbrev pub CallsFor : Tones → Table → Option Move → rule.Answer → Type 0
+CallsFor T t None a = a ≡ rule.finished
+CallsFor T t (Some (Take f)) a = (a ≡ rule.moved (rule.taking t f.tone)) × Takes T t f
+CallsFor T t (Some (GiveUp h)) a = (a ≡ rule.moved (rule.giving_up t h.tone)) × GivesUp T t h
+CallsFor T t (Some (Exchange h f)) a = (a ≡ rule.moved (rule.taking (rule.giving_up t h.tone) f.tone)) × Exchanges T t h f

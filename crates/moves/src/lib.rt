@@ -23,10 +23,9 @@ pub struct Step {
     pub size: u64,
 }
 
-// What a rule names: nothing, or one move. An exchange gives up its first step and takes its second.
+// One move. An exchange gives up its first step and takes its second.
 #[derive(Clone, Copy)]
 pub enum Move {
-    Nothing,
     Take(Step),
     GiveUp(Step),
     Exchange(Step, Step),
@@ -43,23 +42,23 @@ fn step_at(rank: u64) -> Step
 }
 
 // Takes the earliest free step if there is one and it fits the budget.
-fn take_if_fits(earliest: u64, power: u64, budget: u64) -> Move
+fn take_if_fits(earliest: u64, power: u64, budget: u64) -> Option<Move>
     requires { power < 2 ^ 63 }
     ensures { (T : Tones) (t : Table) → Knows Add T t power earliest 0 → CallsFor T t result (take_if_fits T budget t (earliest_free T t)) }
 {
     if earliest == u64::MAX {
-        return Move::Nothing;
+        return None;
     }
     let f = step_at(earliest);
     if budget < power + f.size {
-        return Move::Nothing;
+        return None;
     }
-    Move::Take(f)
+    Some(Move::Take(f))
 }
 
 // Exchanges the latest held step for the earliest free one if that comes before it; otherwise, above the budget, gives up the latest
 // held one; otherwise takes the earliest free one if it fits. With no held step the rank of the latest is 0.
-fn refit_move(earliest: u64, latest: u64, power: u64, budget: u64) -> Move
+fn refit_move(earliest: u64, latest: u64, power: u64, budget: u64) -> Option<Move>
     requires { power < 2 ^ 63 }
     ensures { (T : Tones) (t : Table) → Knows Refit T t power earliest latest → CallsFor T t result (refit_step T budget t) }
 {
@@ -67,17 +66,17 @@ fn refit_move(earliest: u64, latest: u64, power: u64, budget: u64) -> Move
         return take_if_fits(earliest, power, budget);
     }
     if earliest < latest {
-        return Move::Exchange(step_at(latest), step_at(earliest));
+        return Some(Move::Exchange(step_at(latest), step_at(earliest)));
     }
     if budget < power {
-        return Move::GiveUp(step_at(latest));
+        return Some(Move::GiveUp(step_at(latest)));
     }
     take_if_fits(earliest, power, budget)
 }
 
-// The move that a rule names for a table of this total power, whose earliest free and latest held step have these ranks. Adding goes by
-// the earliest alone.
-pub fn next_move(rule: Rule, earliest: u64, latest: u64, power: u64, budget: u64) -> Move
+// The move that a rule names, if it names one, for a table of this total power, whose earliest free and latest held step have these ranks.
+// Adding goes by the earliest alone.
+pub fn next_move(rule: Rule, earliest: u64, latest: u64, power: u64, budget: u64) -> Option<Move>
     requires { power < 2 ^ 63 }
     ensures { (T : Tones) (t : Table) → Knows rule T t power earliest latest → CallsFor T t result (rule_of rule T budget t) }
 {

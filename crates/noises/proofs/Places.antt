@@ -1,9 +1,11 @@
 -- The noise of a tone whose command stands at a place of a sheet, by the byte of its short command.
 -- Assumes nothing.
-use mathlib.Core.Bool.{Bool, true, false, cond, true≢false}
+use mathlib.Core.Bool.{Bool, true, false, not, cond, true≢false}
 use mathlib.Core.List.{List}
 use mathlib.Core.Path.{◌≡◌, refl, sym, ap, ◌∙◌}
 use Prim.Native.Nat.{ℕ}
+use native.Mathlib.Decide.{ℕ_discrete}
+use borrow.Author.Tests.{eq-eqb, ne_eqb}
 use lib.Dec.{eqb}
 use lib.ListN.{get_or}
 use Rattle.bigendian.specs.Number.{number_at}
@@ -29,14 +31,16 @@ whole false n = refl
 
 -- whether the tone at a place has a whole noise
 module _ (s : List ℕ) (place : ℕ) {short : ℕ} (is : short ≡ short_of (get_or s place 0)) where
-  pub levels-no-noise : short ≡ 9 → false ≡ has_noise (tone_at s place).kind
-  levels-no-noise e = sym (ap (λ (t : Tone). has_noise t.kind) (levels-there s place is e))
+  pub levels-no-noise : short ≡ 9 → not (eqb short 9) ≡ has_noise (tone_at s place).kind
+  levels-no-noise e = rw (eq-eqb short 9 e) (sym (ap (λ (t : Tone). has_noise t.kind) (levels-there s place is e)))
 
-  pub ratio-no-noise : short ≡ 10 → false ≡ has_noise (tone_at s place).kind
-  ratio-no-noise e = sym (ap (λ (t : Tone). has_noise t.kind) (ratio-there s place is e))
-
-  pub whole-noise : (short ≡ 9 → ⊥) → (short ≡ 10 → ⊥) → true ≡ has_noise (tone_at s place).kind
-  whole-noise p q = whole (eqb short 5) _ ∙ sym (ap (λ (t : Tone). has_noise t.kind) (tone-there s place is p q))
+  -- of the other bytes, every one but 10 gives one
+  pub other-noise : (short ≡ 9 → ⊥) → not (eqb short 10) ≡ has_noise (tone_at s place).kind
+  other-noise p = by (ℕ_discrete short 10)
+    where
+      by : Dec (short ≡ 10) → not (eqb short 10) ≡ has_noise (tone_at s place).kind
+      by (yes e) = rw (eq-eqb short 10 e) (sym (ap (λ (t : Tone). has_noise t.kind) (ratio-there s place is e)))
+      by (no q) = rw (ne_eqb short 10 q) (whole (eqb short 5) _ ∙ sym (ap (λ (t : Tone). has_noise t.kind) (tone-there s place is p q)))
 
 -- the noise of a tone that has a whole one is the first of its numbers
 pub noise-there : (s : List ℕ) (place : ℕ) → has_noise (tone_at s place).kind ≡ true → noise_of (tone_at s place).kind ≡ number_at s (carried_at s place) 2

@@ -13,14 +13,11 @@ pub fn has_noise(s: &[u8], place: u16) -> bool
     ensures { result ≡ has_noise (tone_at s.now place).kind }
 {
     let short = addresses::short_of(addresses::byte_at(s, place as usize));
-    match short {
-        9 => false,
-        10 => false,
-        _ => true,
-    }
+    short != 9 && short != 10
 }
 
-// The noise of the tone whose command stands at a place, or 0 where it has none as a whole number.
+// The noise of the tone whose command stands at a place, or 0 where it has none as a whole number. Not an Option: the definition has 0 for it,
+// and a high noise is compared with one number.
 pub fn noise_at(s: &[u8], place: u16) -> u16
     ensures { result ≡ noise_of (tone_at s.now place).kind }
 {
@@ -43,28 +40,17 @@ pub fn high_at(s: &[u8], place: u16) -> u16
 fn numbers_with(noise: u16, n: Numbers) -> Numbers
     ensures { result ≡ numbers_with noise n }
 {
-    Numbers {
-        noise: noise,
-        gain: n.gain,
-        cap: n.cap,
-        mask: n.mask,
-    }
+    Numbers { noise, ..n }
 }
 
 // A tone with another noise. One with a reading stays as it is.
 pub fn with_noise(noise: u16, tone: Tone) -> Tone
     ensures { result ≡ with_noise noise tone }
 {
-    let kind = tone.kind;
-    match kind {
-        Kind::Pair(n) => Tone {
-            kind: Kind::Pair(numbers_with(noise, n)),
-        },
-        Kind::Single(n) => Tone {
-            kind: Kind::Single(numbers_with(noise, n)),
-        },
-        Kind::Read(n) => Tone {
-            kind: Kind::Read(n),
-        },
-    }
+    let kind = match tone.kind {
+        Kind::Pair(n) => Kind::Pair(numbers_with(noise, n)),
+        Kind::Single(n) => Kind::Single(numbers_with(noise, n)),
+        Kind::Read(n) => Kind::Read(n),
+    };
+    Tone { kind }
 }

@@ -3,31 +3,10 @@
 #![tactic(auto)]
 
 ghost use Rattle.std.specs.Prelude.{◌≡◌};
-ghost use Rattle.refusals.specs.Writing.{write_numbers};
-ghost use Rattle.guarded.specs.Guarded.{guarded_numbers};
-ghost use Rattle.answers.specs.Answers.{code, answered, Says};
+ghost use Rattle.answers.specs.Answers.{code, answered};
 ghost use Rattle.outside.specs.Outside.{outside_limits, outside_limited, outside_budgets, outside_budgeted, outside_guarded, outside_guarded_table};
 
-use answers::Reply;
-use guarded::GuardedLoad;
-use refusals::WriteAnswer;
 use sizes::ANSWER_BYTES;
-
-// The reply of a call that only writes: it has no answers.
-fn of_write(answer: WriteAnswer) -> Reply
-    ensures { Says result (write_numbers answer) }
-{
-    match answer {
-        WriteAnswer::Refused(why) => answers::of_refusal(why),
-        WriteAnswer::Written => Reply {
-            returned: 0,
-            count: 0,
-            first: 0,
-            second: 0,
-            third: 0,
-        },
-    }
-}
 
 #[unsafe(no_mangle)]
 pub extern "C" fn outside_limits(sheet: &[u8], out: &mut [u8], answer: &mut [u8]) -> u64
@@ -38,8 +17,7 @@ pub extern "C" fn outside_limits(sheet: &[u8], out: &mut [u8], answer: &mut [u8]
     if answer.len() < ANSWER_BYTES {
         return answers::without_room(sheet);
     }
-    let limited = loader::limits(sheet, out);
-    answers::put(of_write(limited), answer)
+    answers::reply(loader::limits(sheet, out), answer)
 }
 
 // Without room for the answers the refusals come as for a buffer of no bytes, which has no room either: 8 is the last of them.
@@ -55,28 +33,13 @@ pub extern "C" fn outside_budgets(
     ensures answers { answer.new ≡ answered (outside_budgets sheet.now list.now out.old answer.old) answer.old }
 {
     if answer.len() < ANSWER_BYTES {
-        let mut none: [u8; 0] = [0; 0];
-        let refused = loader::budgets(sheet, list, &mut none);
-        return of_write(refused).returned;
+        let mut none: [u8; 0] = [];
+        return match loader::budgets(sheet, list, &mut none) {
+            Ok(()) => 0,
+            Err(why) => answers::refused(why),
+        };
     }
-    let written = loader::budgets(sheet, list, out);
-    answers::put(of_write(written), answer)
-}
-
-// The reply of the guarded loading: its three totals.
-fn of_guarded(loaded: GuardedLoad) -> Reply
-    ensures { Says result (guarded_numbers loaded) }
-{
-    match loaded {
-        GuardedLoad::Refused(why) => answers::of_refusal(why),
-        GuardedLoad::Totals(bits, power, plain) => Reply {
-            returned: 0,
-            count: 3,
-            first: bits as u64,
-            second: power,
-            third: plain as u64,
-        },
-    }
+    answers::reply(loader::budgets(sheet, list, out), answer)
 }
 
 #[unsafe(no_mangle)]
@@ -88,6 +51,5 @@ pub extern "C" fn outside_guarded(sheet: &[u8], table: &mut [u8], answer: &mut [
     if answer.len() < ANSWER_BYTES {
         return answers::without_room(sheet);
     }
-    let loaded = loader::guarded(sheet, table);
-    answers::put(of_guarded(loaded), answer)
+    answers::reply(loader::guarded(sheet, table), answer)
 }

@@ -14,6 +14,7 @@ use Rattle.line.specs.declared.Tone.{Tone}
 use Rattle.line.specs.Tone.{noise_of}
 use Rattle.line.specs.Line.{Added, Entry, undescribed, described}
 use Rattle.addresses.specs.Addresses.{short_of, carried_at}
+use Rattle.places.specs.declared.Noted.{Noted}
 
 -- 'noise 2, gain 2, cap 1, mask 8', from a place on; what is not there reads as 0
 abbrev pub numbers_at : List ℕ → (at : ℕ) → Numbers
@@ -70,3 +71,11 @@ added_at s t rest high = record { rest = rest_from s rest; high = high_from s t 
 abbrev pub entry_at : List ℕ → (place rest high : ℕ) → Entry
 entry_at s zero rest high = undescribed
 entry_at s (suc p) rest high = described (tone_at s (suc p)) (added_at s (tone_at s (suc p)) rest high)
+
+-- the entry of a tone of whose commands these places are noted
+abbrev pub entry_noted : List ℕ → Noted → Entry
+entry_noted s n = entry_at s n.own n.rest n.high
+
+-- nothing is noted of a tone
+abbrev pub nowhere : Noted
+nowhere = record { own = 0; rest = 0; high = 0 }

@@ -9,6 +9,23 @@ ghost use Rattle.places.specs.Places.{numbers_at, float_at, both_at, levels_at, 
 use line::{Kind, Numbers, ReadNumbers, Tone};
 use readings::{Levels, Reading};
 
+// Where the commands of a tone stand in a sheet: its own, its rest's and its high noise's; 0 for none, since no command after the first three
+// stands there.
+#[derive(Clone, Copy)]
+pub struct Noted {
+    pub own: u16,
+    pub rest: u16,
+    pub high: u16,
+}
+
+impl Noted {
+    pub const NOWHERE: Noted = Noted {
+        own: 0,
+        rest: 0,
+        high: 0,
+    };
+}
+
 // What a tone's command with whole numbers carries, from a place on. What is not there reads as 0, here and below.
 fn numbers_at(s: &[u8], place: u32) -> Numbers
     ensures { result ≡ numbers_at s.now place }
@@ -22,7 +39,7 @@ fn numbers_at(s: &[u8], place: u32) -> Numbers
     }
 }
 
-// The float at a place. One that is not finite or not above zero reads as 0.
+// The float at a place. One that is not finite or not above zero reads as 0, which is no usable float: so this is not an Option.
 fn float_at(s: &[u8], at: usize) -> f32
     ensures { result ≡ float_at s.now at }
 {
@@ -46,9 +63,8 @@ fn levels_at(s: &[u8], place: u32) -> ReadNumbers
     ensures { result ≡ levels_at s.now place }
 {
     let at = place as usize;
-    let levels = both_at(s, place);
     ReadNumbers {
-        reading: Reading::Both(levels),
+        reading: Reading::Both(both_at(s, place)),
         cap: addresses::byte_at(s, at + 8),
         mask: bigendian::number_at(s, at + 9, 8),
     }
@@ -71,8 +87,7 @@ pub fn tone_at(s: &[u8], place: u16) -> Tone
     ensures { result ≡ tone_at s.now place }
 {
     let carried = addresses::carried_at(s, place);
-    let short = addresses::short_of(addresses::byte_at(s, place as usize));
-    match short {
+    match addresses::short_of(addresses::byte_at(s, place as usize)) {
         5 => Tone {
             kind: Kind::Single(numbers_at(s, carried)),
         },
@@ -88,7 +103,7 @@ pub fn tone_at(s: &[u8], place: u16) -> Tone
     }
 }
 
-// The rest whose command stands at a place, or 0 where none does.
+// The rest whose command stands at a place, or 0 where none does. Not an Option: a tone has 'the rest, 0 where none is given'.
 pub fn rest_at(s: &[u8], place: u16) -> u32
     ensures { result ≡ rest_from s.now place }
 {
@@ -107,8 +122,7 @@ pub fn takes_rest(s: &[u8], gap: u16, place: u16, rest: u32) -> bool
 {
     let carried = addresses::carried_at(s, place);
     let at = carried as usize;
-    let short = addresses::short_of(addresses::byte_at(s, place as usize));
-    match short {
+    match addresses::short_of(addresses::byte_at(s, place as usize)) {
         9 => {
             let mask = bigendian::number_at(s, at + 9, 8);
             line::reading_takes(gap, Reading::Both(both_at(s, carried)), mask, rest)

@@ -9,7 +9,7 @@ use native.Mathlib.Omega.{arith}
 use borrow.Author.Count.{below_more}
 use lib.ListN.{length, get_or, set}
 use lib.Seq.{get_or-set_same, get_or-set_other}
-use Rattle.line.specs.Arrays.{Arrays, limit_at, cost_at, doublings_at, rest_at}
+use Rattle.line.specs.Arrays.{Arrays, steps_in}
 use Rattle.ranks.specs.Ranks.{free_rank, held_rank, free_rank_at, held_rank_at, NoneFrom, Keeps, Ranked}
 
 -- a store below tone n leaves the tones from n on without a step
@@ -51,8 +51,8 @@ keeps-set {n} {i} {f} {g} {ranks} K h inside others =
 pub ranked-set : {count : ℕ} {A : Arrays} {bits free held : List ℕ} → Ranked count A bits free held
     → (tone b : ℕ) → tone < count → tone < length bits → tone < length free → tone < length held
     → Ranked count A (set bits tone b)
-    (set free tone (free_rank tone (limit_at A tone) (cost_at A tone) (doublings_at A tone) (rest_at A tone) b))
-    (set held tone (held_rank tone (cost_at A tone) (doublings_at A tone) (rest_at A tone) b))
+    (set free tone (free_rank tone (steps_in A tone) b))
+    (set held tone (held_rank tone (steps_in A tone) b))
 ranked-set {count} {A} {bits} {free} {held} R tone b l in_bits in_free in_held =
     let u = set bits tone b in
     let new = get_or-set_same bits tone b 0 in_bits in

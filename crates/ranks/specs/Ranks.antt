@@ -4,7 +4,8 @@ use Rattle.std.specs.Prelude.{cond, List, ◌≢◌, ◌≡◌, ℕ, ◌+◌, �
 use Rattle.std.proofs.Math.Option.{Option, none, some}
 use Rattle.sizes.specs.Sizes.{most_tones}
 use Rattle.steps.specs.Tones.{Tones, step, Table, ◌!◌}
-use Rattle.line.specs.Arrays.{Arrays, limit_at, cost_at, doublings_at, rest_at, step_size}
+use Rattle.line.specs.declared.Steps.{Steps}
+use Rattle.line.specs.Arrays.{Arrays, steps_in, step_size}
 
 -- the base of a rank, above the number of every tone: the most tones
 abbrev pub rank_base : ℕ
@@ -19,18 +20,18 @@ unfoldable pub no_step : ℕ
 no_step = 2 ^ 64 - 1
 
 -- the rank of a tone's earliest free step; that of its latest held one, counted down from the largest number
-abbrev pub free_rank : (tone limit cost doublings rest bits : ℕ) → ℕ
-free_rank tone limit cost doublings rest bits = cond (ltb bits limit) (rank (step_size cost doublings rest bits) tone) no_step
+abbrev pub free_rank : (tone : ℕ) → Steps → (bits : ℕ) → ℕ
+free_rank tone s bits = cond (ltb bits s.limit.bits) (rank (step_size s.cost s.doublings s.rest bits) tone) no_step
 
-abbrev pub held_rank : (tone cost doublings rest bits : ℕ) → ℕ
-held_rank tone cost doublings rest bits = cond (ltb 0 bits) (no_step - rank (step_size cost doublings rest (bits - 1)) tone) no_step
+abbrev pub held_rank : (tone : ℕ) → Steps → (bits : ℕ) → ℕ
+held_rank tone s bits = cond (ltb 0 bits) (no_step - rank (step_size s.cost s.doublings s.rest (bits - 1)) tone) no_step
 
--- the same of tone i of the arrays, at its bits
+-- the same of tone i of the array, at its bits
 abbrev pub free_rank_at : Arrays → (bits : List ℕ) → (i : ℕ) → ℕ
-free_rank_at A bits i = free_rank i (limit_at A i) (cost_at A i) (doublings_at A i) (rest_at A i) (get_or bits i 0)
+free_rank_at A bits i = free_rank i (steps_in A i) (get_or bits i 0)
 
 abbrev pub held_rank_at : Arrays → (bits : List ℕ) → (i : ℕ) → ℕ
-held_rank_at A bits i = held_rank i (cost_at A i) (doublings_at A i) (rest_at A i) (get_or bits i 0)
+held_rank_at A bits i = held_rank i (steps_in A i) (get_or bits i 0)
 
 -- from tone n on there is no step
 pub record NoneFrom (n : ℕ) (ranks : List ℕ) : Type 0 where

@@ -1,7 +1,7 @@
 // The readings of the line analyser: which floats a sheet may have, the ratio of a reading, and its cost, exactly. Document 02, W5.
 #![tactic(auto)]
 
-ghost use Rattle.std.specs.Prelude.{false, ◌≡◌, ◌*◌, ◌^◌, ◌<◌, min};
+ghost use Rattle.std.specs.Prelude.{false, ◌≡◌, ◌*◌, ◌^◌, ◌<◌};
 ghost use Rattle.std.specs.Float.{binary32};
 ghost use Rattle.std.specs.Float.Ieee.{of_bits, to_bits};
 ghost use Rattle.std.specs.Float.Ieee.Exact.{HasValue};
@@ -44,7 +44,7 @@ pub fn is_usable(bits: u32) -> bool
     0 < bits && bits < INFINITY
 }
 
-// The float of 32 bits, 0 where it is not finite or not above zero.
+// The float of 32 bits, 0 where it is not finite or not above zero. Not an Option: 0 is no usable float.
 pub fn float_of(bits: u32) -> f32
     ensures { result ≡ float_of bits }
 {
@@ -60,8 +60,8 @@ fn ratio_bits(reading: Reading) -> u32
     ensures { result ≡ to_bits binary32 (ratio reading) }
 {
     match reading {
-        Reading::Both(levels) => f32::to_bits(levels.noise / levels.gain),
-        Reading::Ratio(x) => f32::to_bits(x),
+        Reading::Both(levels) => (levels.noise / levels.gain).to_bits(),
+        Reading::Ratio(x) => x.to_bits(),
     }
 }
 
@@ -85,13 +85,6 @@ fn exact_of(bits: u32) -> Exact
     }
 }
 
-// The smaller of two numbers.
-fn smaller(a: u32, b: u32) -> u32
-    ensures { result ≡ min a b }
-{
-    if a < b { a } else { b }
-}
-
 // The smallest whole number not below product × 2^exponent / 2^157, or one over the largest cost where that is over it. A product of one is
 // over it after 24 doublings, and none is above one after 40 halvings: no shift goes further.
 fn rounded_up(product: u64, exponent: u32) -> u64
@@ -100,15 +93,15 @@ fn rounded_up(product: u64, exponent: u32) -> u64
     ensures { SameOrOver result (ceiling (product * 2 ^ exponent) (2 ^ 157)) }
 {
     if 157 <= exponent {
-        return product << smaller(exponent - 157, 24);
+        return product << (exponent - 157).min(24);
     }
-    let shift = smaller(157 - exponent, 40);
+    let shift = (157 - exponent).min(40);
     let unit: u64 = 1 << shift;
     (product + (unit - 1)) >> shift
 }
 
 // The cost of a reading at a gap in parts of 256: g × ratio / 256 rounded up, at least 1. 0 where the ratio is infinite or the cost is over
-// the largest.
+// the largest. Not an Option: it answers for every usable reading, and no tone costs 0.
 pub fn cost_of(gap: u16, reading: Reading) -> u32
     requires { Usable reading }
     ensures { result ≡ granted_cost gap reading }

@@ -1,11 +1,9 @@
 -- A call that writes bytes from the start of a lent buffer on. Document 01: 'Bytes of a longer buffer past those stay as they were'; a
 -- refusal 'changes no lent byte'; refusal 8: 'The lent destination is too small'.
 -- Assumes nothing.
-use Rattle.std.specs.Prelude.{cond, List, [], ◌++◌, ℕ, ltb, length, drop}
+use Rattle.std.specs.Prelude.{cond, List, [], ◌++◌, ℕ, ltb, length, drop, Result, Ok, Err}
 use Rattle.refusals.specs.declared.Refusal.{Refusal}
 use Rattle.refusals.specs.declared.Refusal.TheVariants.{DestinationTooSmall}
-use Rattle.refusals.specs.declared.WriteAnswer.{WriteAnswer}
-use Rattle.refusals.specs.declared.WriteAnswer.TheVariants.{Written, Refused}
 use Rattle.refusals.specs.Refusals.{Outcome, success, refusal}
 
 -- The call writes these bytes, or is turned down.
@@ -22,16 +20,16 @@ abbrev pub after_writing : Writing → (old : List ℕ) → List ℕ
 after_writing (writes bytes) old = bytes ++ drop (length bytes) old
 after_writing (turned_down r) old = old
 
--- A call that only writes answers nothing but that the bytes are written: as the enum, and as the paper's numbers.
-abbrev pub write_answer : Writing → WriteAnswer
-write_answer (writes bytes) = Written
-write_answer (turned_down r) = Refused r
+-- A call that only writes answers nothing but that the bytes are written: as a result, and as the paper's numbers.
+abbrev pub write_answer : Writing → Result (Unit {0}) Refusal
+write_answer (writes bytes) = Ok tt
+write_answer (turned_down r) = Err r
 
 abbrev pub write_outcome : Writing → Outcome
 write_outcome (writes bytes) = success []
 write_outcome (turned_down r) = refusal 0 r
 
--- the paper's number, place and answers of each case of the enum
-abbrev pub write_numbers : WriteAnswer → Outcome
-write_numbers Written = success []
-write_numbers (Refused r) = refusal 0 r
+-- the paper's number, place and answers of each case of the result
+abbrev pub write_numbers : Result (Unit {0}) Refusal → Outcome
+write_numbers (Ok done) = success []
+write_numbers (Err r) = refusal 0 r

@@ -5,9 +5,11 @@ ghost use Rattle.std.specs.Prelude.{◌≡◌, ◌≤◌, ◌<◌};
 ghost use Rattle.sizes.specs.Sizes.{most_tones};
 ghost use Rattle.rests.specs.Rests.{sent_at, rests_sent};
 
+use places::Noted;
 use sizes::{TONES, WORDS};
 
-// The rest that a tone sends: the one whose command stands at a place, or 0 where none does or the tone is silenced.
+// The rest that a tone sends: the one whose command stands at a place, or 0 where none does or the tone is silenced. Not an Option: it is
+// added up.
 fn sent_rest(s: &[u8], place: u16, maps: &[u32; WORDS], tone: u16) -> u32
     requires { tone < most_tones }
     ensures { result ≡ sent_at s.now place maps.now tone }
@@ -22,15 +24,13 @@ fn sent_rest(s: &[u8], place: u16, maps: &[u32; WORDS], tone: u16) -> u32
 }
 
 // What the rests of so many tones add up to. Most tones have none, and are passed over by their place alone.
-pub fn rest_total(s: &[u8], size: u16, rests: &[u16; TONES], maps: &[u32; WORDS]) -> u64
+pub fn rest_total(s: &[u8], size: u16, noted: &[Noted; TONES], maps: &[u32; WORDS]) -> u64
     requires { size ≤ most_tones }
-    ensures { result ≡ rests_sent s.now rests.now maps.now size }
+    ensures { result ≡ rests_sent s.now noted.now maps.now size }
 {
     let mut total: u64 = 0;
-    let mut i: u16 = 0;
-    while i < size {
-        total += sent_rest(s, rests[i as usize], maps, i) as u64;
-        i += 1;
+    for tone in 0..size {
+        total += sent_rest(s, noted[tone as usize].rest, maps, tone) as u64;
     }
     total
 }

@@ -16,6 +16,7 @@ use native.Mathlib.Omega.{arith}
 use borrow.Author.Tests.{le-ltb, lt-ltb, ne_eqb}
 use lib.Dec.{leb, ltb, eqb}
 use lib.ListN.{get_or}
+use Rattle.std.specs.Prelude.{Result, Ok, Err}
 use Rattle.sizes.specs.Sizes.{most_words, pair_cap, most_power}
 use Rattle.bigendian.specs.Number.{number}
 use Rattle.bigendian.proofs.Numbers.{number-one}
@@ -33,26 +34,26 @@ use Rattle.places.specs.Places.{tone_at, entry_at}
 use Rattle.places.proofs.Entries.{entry-there}
 use Rattle.rows.specs.declared.Header.{Header}
 use Rattle.rows.specs.declared.Command.{Command}
-use Rattle.rows.specs.declared.Command.TheVariants.{Describe, Rest, High, Silence, Refused}
+use Rattle.rows.specs.declared.Command.TheVariants.{Describe, Rest, High, Silence}
 use Rattle.rows.specs.Rows.{Known, Operand, takes_rest, takes_high, is_rest_of, within, rest, high, describing, cap_and_mask, numbers, levels_of, ratio_of, level_operands, ratio_operands, end, width, judged, describes_from, row_at}
 use Rattle.rows.specs.Codes.{known_at, silence_row, ToneCode, RestCode, HighCode, tone_operands, tone_row, rest_row, high_row, or_end, row_of}
 
 -- ---- operands
 
 -- a refusal that a test decides
-judged-cond : (t : Bool) (o q : Option Refusal) (c : Command) → judged (cond t o q) c ≡ cond t (judged o c) (judged q c)
+judged-cond : (t : Bool) (o q : Option Refusal) (c : Result Command Refusal) → judged (cond t o q) c ≡ cond t (judged o c) (judged q c)
 judged-cond true o q c = refl
 judged-cond false o q c = refl
 
-abbrev pub out_of_range : (place : ℕ) → Command
-out_of_range place = Refused (OperandOutOfRange place)
+abbrev pub out_of_range : (place : ℕ) → Result Command Refusal
+out_of_range place = Err (OperandOutOfRange place)
 
 -- an operand with a range, and what the command does where its value v is in the range
-unfoldable pub ranged : (v low high place : ℕ) → Command → Command
+unfoldable pub ranged : (v low high place : ℕ) → Result Command Refusal → Result Command Refusal
 ranged v low high place rest = cond (ltb v low) (out_of_range place) (cond (ltb high v) (out_of_range place) rest)
 
 -- What an operand's value decides; the code has it as v.
-module _ (low high place : ℕ) (rest : Command) {v w : ℕ} (e : v ≡ w) where
+module _ (low high place : ℕ) (rest : Result Command Refusal) {v w : ℕ} (e : v ≡ w) where
   pub below : v < low → ranged w low high place rest ≡ out_of_range place
   unfolding ranged
   below l = rw (sym e, lt-ltb v low l)
@@ -70,7 +71,7 @@ module _ (low high place : ℕ) (rest : Command) {v w : ℕ} (e : v ≡ w) where
 -- a command of one operand with a range
 pub one-operand : (h : Header) (known : Known) (s : List ℕ) (at code w low high : ℕ) (does : Header → List ℕ → Command)
     → row_at h known s at (record { code = code; operands = within w low high ∷ []; does = does })
-    ≡ ranged (number s (at + 1) w) low high (at + 1) (does h (number s (at + 1) w ∷ []))
+    ≡ ranged (number s (at + 1) w) low high (at + 1) (Ok (does h (number s (at + 1) w ∷ [])))
 unfolding row_at ranged
 one-operand h known s at code w low high does = simp judged-cond
 
@@ -78,36 +79,36 @@ one-operand h known s at code w low high does = simp judged-cond
 pub silence-operands : (h : Header) (known : Known) (s : List ℕ) (at : ℕ)
     → row_at h known s at silence_row
     ≡ ranged (get_or s (at + 1) 0) 0 (most_words - 1) (at + 1)
-    (cond (names_beyond h.size (get_or s (at + 1) 0) (number s (at + 2) 4)) (Refused (ToneBeyondLine (at + 2)))
-    (Silence (get_or s (at + 1) 0) (number s (at + 2) 4)))
+    (cond (names_beyond h.size (get_or s (at + 1) 0) (number s (at + 2) 4)) (Err (ToneBeyondLine (at + 2)))
+    (Ok (Silence (get_or s (at + 1) 0) (number s (at + 2) 4))))
 unfolding row_at ranged
 silence-operands h known s at = simp (judged-cond, number-one, add_assoc)
 
 -- the rest command
 pub rest-operands : (h : Header) (known : Known) (s : List ℕ) (at w : ℕ) → (let i = number s (at + 1) w in let value = number s (at + 1 + w) 4 in
     row_at h known s at (rest w)
-    ≡ cond (leb h.size i) (Refused (ToneBeyondLine (at + 1)))
+    ≡ cond (leb h.size i) (Err (ToneBeyondLine (at + 1)))
     (cond (takes_rest known)
-    (cond (is_rest_of (parts h.gap) known.entry value) (Rest i) (Refused (RestOutOfRange (at + 1 + w))))
-    (Refused (ToneCannotTake (at + 1)))))
+    (cond (is_rest_of (parts h.gap) known.entry value) (Ok (Rest i)) (Err (RestOutOfRange (at + 1 + w))))
+    (Err (ToneCannotTake (at + 1)))))
 unfolding row_at
 rest-operands h known s at w = simp judged-cond
 
 -- the high noise's command
 pub high-operands : (h : Header) (known : Known) (s : List ℕ) (at w : ℕ) → (let i = number s (at + 1) w in let value = number s (at + 1 + w) 2 in
     row_at h known s at (high w)
-    ≡ cond (leb h.size i) (Refused (ToneBeyondLine (at + 1)))
+    ≡ cond (leb h.size i) (Err (ToneBeyondLine (at + 1)))
     (cond (takes_high known)
-    (cond (entry_has_noise known.entry) (cond (ltb value (entry_low known.entry)) (out_of_range (at + 1 + w)) (High i)) (out_of_range (at + 1)))
-    (Refused (ToneCannotTake (at + 1)))))
+    (cond (entry_has_noise known.entry) (cond (ltb value (entry_low known.entry)) (out_of_range (at + 1 + w)) (Ok (High i))) (out_of_range (at + 1)))
+    (Err (ToneCannotTake (at + 1)))))
 unfolding row_at
 high-operands h known s at w = simp judged-cond
 
 -- a command that describes a tone, and then from one operand on
 pub tone-operands : (h : Header) (known : Known) (s : List ℕ) (at w short : ℕ) (os : List Operand) → (let i = number s (at + 1) w in
     row_at h known s at (describing w short os)
-    ≡ cond (leb h.size i) (Refused (ToneBeyondLine (at + 1)))
-    (cond (is_described known.entry) (Refused (ToneRepeated (at + 1))) (describes_from h known (i ∷ []) s (at + 1 + w) os)))
+    ≡ cond (leb h.size i) (Err (ToneBeyondLine (at + 1)))
+    (cond (is_described known.entry) (Err (ToneRepeated (at + 1))) (describes_from h known (i ∷ []) s (at + 1 + w) os)))
 unfolding row_at
 tone-operands h known s at w short os = simp judged-cond
 
@@ -123,10 +124,10 @@ module _ (h : Header) (known : Known) (s : List ℕ) (at i : ℕ) where
       describes_from h known (i ∷ []) s at level_operands
       ≡ cond (is_usable noise)
       (cond (is_usable gain)
-      (cond (is_over (parts h.gap) (levels_of (i ∷ noise ∷ gain ∷ []))) (Refused (CostOutOfRange at))
+      (cond (is_over (parts h.gap) (levels_of (i ∷ noise ∷ gain ∷ []))) (Err (CostOutOfRange at))
       (describes_from h known (i ∷ noise ∷ gain ∷ []) s (at + 8) (cap_and_mask pair_cap)))
-      (Refused (FloatOutOfRange (at + 4))))
-      (Refused (FloatOutOfRange at)))
+      (Err (FloatOutOfRange (at + 4))))
+      (Err (FloatOutOfRange at)))
   level-operands =
       let back : at + 4 - 4 ≡ at = omega arith in
       simp (judged-cond, add_assoc, back)
@@ -134,16 +135,16 @@ module _ (h : Header) (known : Known) (s : List ℕ) (at i : ℕ) where
   pub ratio-operands : (let bits = number s at 4 in
       describes_from h known (i ∷ []) s at ratio_operands
       ≡ cond (is_usable bits)
-      (cond (is_over (parts h.gap) (ratio_of (i ∷ bits ∷ []))) (Refused (CostOutOfRange at))
+      (cond (is_over (parts h.gap) (ratio_of (i ∷ bits ∷ []))) (Err (CostOutOfRange at))
       (describes_from h known (i ∷ bits ∷ []) s (at + 4) (cap_and_mask pair_cap)))
-      (Refused (FloatOutOfRange at)))
+      (Err (FloatOutOfRange at)))
   ratio-operands =
       let back : at - 0 ≡ at = omega arith in
       simp (judged-cond, add_assoc, back)
 
   pub cap-operands : (values : List ℕ) (most : ℕ)
       → describes_from h known (i ∷ values) s at (cap_and_mask most)
-      ≡ ranged (get_or s at 0) 0 most at (ranged (number s (at + 1) 8) 0 most_power (at + 1) (Describe i))
+      ≡ ranged (get_or s at 0) 0 most at (ranged (number s (at + 1) 8) 0 most_power (at + 1) (Ok (Describe i)))
   unfolding ranged
   cap-operands values most = simp (judged-cond, number-one)
 

@@ -4,12 +4,16 @@ use Rattle.std.specs.Prelude.{true, false, cond, List, ◌++◌, ◌⊎◌, ◌�
 use Rattle.std.proofs.Math.Option.{Option, none, some}
 use Rattle.sizes.specs.Sizes.{most_tones, most_words}
 use Rattle.addresses.specs.Addresses.{number_width, short_of}
+use Rattle.places.specs.declared.Noted.{Noted}
 use Rattle.places.specs.Places.{entry_at}
 use Rattle.rows.specs.Rows.{Operand, Known, Row, size, describing, numbers, level_operands, ratio_operands, rest, high, silence, end, rows_of, with_code, width}
 
 -- what is known of the tone whose command stands at a place, and whose rest's and high noise's at two others; 0 for none
 abbrev pub known_at : List ℕ → (place rest high : ℕ) → Known
 known_at s place rest high = record { entry = entry_at s place rest high; rested = ltb 0 rest; widened = ltb 0 high }
+
+abbrev pub known_noted : List ℕ → Noted → Known
+known_noted s n = known_at s n.own n.rest n.high
 
 abbrev pub size_row : Row
 size_row = size most_tones

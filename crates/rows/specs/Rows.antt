@@ -1,7 +1,7 @@
 -- The commands of a sheet, one row for each. Document 01, 'The line sheet' and 'Why a sheet is turned down'; document 02, W1, W5, W6,
 -- W8 and W9.
 -- Assumes nothing.
-use Rattle.std.specs.Prelude.{Bool, true, false, not, ◌&&◌, cond, List, [], ◌∷◌, ◌++◌, ℕ, zero, suc, ◌+◌, ◌-◌, leb, ltb, eqb, length, get_or}
+use Rattle.std.specs.Prelude.{Bool, true, false, not, ◌&&◌, cond, List, [], ◌∷◌, ◌++◌, ℕ, zero, suc, ◌+◌, ◌-◌, leb, ltb, eqb, length, get_or, Result, Ok, Err}
 use Rattle.std.proofs.Math.Option.{Option, none, some}
 use Rattle.sizes.specs.Sizes.{pair_cap, most_power}
 use Rattle.bigendian.specs.Number.{number}
@@ -19,7 +19,7 @@ use Rattle.refusals.specs.declared.Refusal.{Refusal}
 use Rattle.refusals.specs.declared.Refusal.TheVariants.{SheetEnds, OperandOutOfRange, ToneBeyondLine, ToneRepeated, FloatOutOfRange, CostOutOfRange, ToneCannotTake, RestOutOfRange}
 use Rattle.rows.specs.declared.Header.{Header}
 use Rattle.rows.specs.declared.Command.{Command}
-use Rattle.rows.specs.declared.Command.TheVariants.{End, Refused, Head, Describe, Rest, High, Silence}
+use Rattle.rows.specs.declared.Command.TheVariants.{End, Head, Describe, Rest, High, Silence}
 use Rattle.rows.specs.declared.Decoded.{Decoded}
 
 -- What the reading knows of a tone: its entry so far, and whether it has had a 0B, 'even of rest 0', and a 0C, even of an equal noise, which
@@ -268,27 +268,31 @@ width [] = 0
 width (o ∷ os) = o.width + width os
 
 -- The operands left to right: the first refusal met, or what the command does of all their values.
-abbrev pub judged : Option Refusal → Command → Command
-judged (some r) c = Refused r
+abbrev pub judged : Option Refusal → Result Command Refusal → Result Command Refusal
+judged (some r) c = Err r
 judged none c = c
 
-abbrev pub operands_from : Seen → List ℕ → (at : ℕ) → List Operand → (List ℕ → Command) → Command
-operands_from seen s at [] does = does seen.before
+abbrev pub operands_from : Seen → List ℕ → (at : ℕ) → List Operand → (List ℕ → Command) → Result Command Refusal
+operands_from seen s at [] does = Ok (does seen.before)
 operands_from seen s at (o ∷ os) does =
     judged (o.judge seen (number s at o.width) at)
     (operands_from (record { header = seen.header; known = seen.known; before = seen.before ++ (number s at o.width ∷ []) }) s (at + o.width) os does)
 
 -- what a command that describes a tone does from an operand on, of the values before it
-abbrev pub describes_from : Header → (known : Known) → (values : List ℕ) → List ℕ → (at : ℕ) → List Operand → Command
+abbrev pub describes_from : Header → (known : Known) → (values : List ℕ) → List ℕ → (at : ℕ) → List Operand → Result Command Refusal
 describes_from h known values s at os = operands_from (record { header = h; known = known; before = values }) s at os (λ v. Describe (get_or v 0 0))
 
 -- What the command of a row does at a place, all of whose bytes are there.
-unfoldable pub row_at : Header → (known : Known) → List ℕ → (at : ℕ) → Row → Command
+unfoldable pub row_at : Header → (known : Known) → List ℕ → (at : ℕ) → Row → Result Command Refusal
 row_at h known s at r = operands_from (record { header = h; known = known; before = [] }) s (at + 1) r.operands (r.does h)
 
 -- 'Within a command, 2 comes before any operand is judged': refusal 2 where the rest of a row's operands is missing, else what its command
 -- does. With it comes the place after the command.
-abbrev pub whole_row : Header → (known : Known) → List ℕ → (at : ℕ) → Row → Decoded
+abbrev pub and_next : (next : ℕ) → Result Command Refusal → Result Decoded Refusal
+and_next next (Ok c) = Ok (record { command = c; next = next })
+and_next next (Err r) = Err r
+
+abbrev pub whole_row : Header → (known : Known) → List ℕ → (at : ℕ) → Row → Result Decoded Refusal
 whole_row h known s at r =
-    cond (ltb (length s) (at + 1 + width r.operands)) (record { command = Refused (SheetEnds (length s)); next = at })
-    (record { command = row_at h known s at r; next = at + 1 + width r.operands })
+    cond (ltb (length s) (at + 1 + width r.operands)) (Err (SheetEnds (length s)))
+    (and_next (at + 1 + width r.operands) (row_at h known s at r))

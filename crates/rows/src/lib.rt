@@ -5,7 +5,6 @@
 ghost use Rattle.std.specs.Prelude.{◌≡◌, ◌+◌, ◌≤◌, length};
 ghost use Rattle.sizes.specs.Sizes.{longest_sheet, tenths_command, levels_command, silence_command};
 ghost use Rattle.refusals.specs.declared.Refusal.TheVariants.{OperandOutOfRange};
-ghost use Rattle.rows.specs.declared.Command.TheVariants.{Refused};
 ghost use Rattle.rows.specs.Rows.{Known, tenths, row_at};
 ghost use Rattle.rows.specs.Codes.{row_of, command_bytes, silence_row};
 
@@ -17,7 +16,8 @@ use sizes::{
     TONES, WORDS,
 };
 
-// What the first three commands give: N, the gap and the budget; 0 for what is not given yet.
+// What the first three commands give: N, the gap and the budget; 0 for what is not given yet. No Options: a command that goes by a part may
+// stand only after that is given.
 #[derive(Clone, Copy)]
 pub struct Header {
     pub size: u16,
@@ -25,12 +25,11 @@ pub struct Header {
     pub budget: u64,
 }
 
-// What a command does, or why it is refused: it ends the sheet, makes a new header, describes a tone, gives one its rest or its high
-// noise, or silences the tones of a map. A later command has one of these effects too.
+// What a command does: it ends the sheet, makes a new header, describes a tone, gives one its rest or its high noise, or silences the
+// tones of a map. A later command has one of these effects too.
 #[derive(Clone, Copy)]
 pub enum Command {
     End,
-    Refused(Refusal),
     Head(Header),
     Describe(u16),
     Rest(u16),
@@ -46,59 +45,49 @@ pub struct Decoded {
 }
 
 // Refusal 4, at the place of an operand.
-pub fn out_of_range(place: usize) -> Command
+pub fn out_of_range(place: usize) -> Refusal
     requires { place ≤ longest_sheet }
-    ensures { result ≡ Refused (OperandOutOfRange place) }
+    ensures { result ≡ OperandOutOfRange place }
 {
-    Command::Refused(Refusal::OperandOutOfRange(place as u16))
+    Refusal::OperandOutOfRange(place as u16)
 }
 
 // One of the first three commands, all of whose bytes are there.
-pub fn header_command(s: &[u8], at: usize, code: u8, header: Header) -> Command
+pub fn header_command(s: &[u8], at: usize, code: u8, header: Header) -> Result<Command, Refusal>
     requires le_code { 1 ≤ code }
     requires code_bound { code ≤ 3 }
     requires code_in_bounds { at + command_bytes code ≤ length s.now }
     requires s_len_bound { length s.now ≤ longest_sheet }
     ensures { (known : Known) → result ≡ row_at header known s.now at (row_of code) }
 {
-    let gap = header.gap;
     if code == 3 {
         let budget = bigendian::number_at(s, at + 1, 8);
         if MOST_POWER < budget {
-            return out_of_range(at + 1);
+            return Err(out_of_range(at + 1));
         }
-        return Command::Head(Header {
-            size: header.size,
-            gap: gap,
-            budget: budget,
-        });
+        return Ok(Command::Head(Header { budget, ..header }));
     }
     let n = bigendian::number_at(s, at + 1, 2);
     if code == 2 {
         if n < GAP_UNIT {
-            return out_of_range(at + 1);
+            return Err(out_of_range(at + 1));
         }
-        return Command::Head(Header {
-            size: header.size,
+        return Ok(Command::Head(Header {
             gap: Gap::Parts(n as u16),
-            budget: header.budget,
-        });
+            ..header
+        }));
     }
-    if n < 1 {
-        return out_of_range(at + 1);
+    if n < 1 || (TONES as u64) < n {
+        return Err(out_of_range(at + 1));
     }
-    if (TONES as u64) < n {
-        return out_of_range(at + 1);
-    }
-    Command::Head(Header {
+    Ok(Command::Head(Header {
         size: n as u16,
-        gap: gap,
-        budget: header.budget,
-    })
+        ..header
+    }))
 }
 
 // The gap in tenths of a decibel, both of whose bytes are there.
-pub fn tenths_command(s: &[u8], at: usize, header: Header) -> Command
+pub fn tenths_command(s: &[u8], at: usize, header: Header) -> Result<Command, Refusal>
     requires tenths_command_in_bounds { at + tenths_command ≤ length s.now }
     requires s_len_bound { length s.now ≤ longest_sheet }
     ensures { (known : Known) → result ≡ row_at header known s.now at tenths }
@@ -106,30 +95,29 @@ pub fn tenths_command(s: &[u8], at: usize, header: Header) -> Command
     let place = at + 1;
     let tenths = s[place];
     if MOST_TENTHS < tenths {
-        return out_of_range(place);
+        return Err(out_of_range(place));
     }
-    Command::Head(Header {
-        size: header.size,
+    Ok(Command::Head(Header {
         gap: Gap::Tenths(tenths),
-        budget: header.budget,
-    })
+        ..header
+    }))
 }
 
 // The silence command, all of whose bytes are there.
-pub fn silence_command(s: &[u8], at: usize, header: Header) -> Command
+pub fn silence_command(s: &[u8], at: usize, header: Header) -> Result<Command, Refusal>
     requires silence_command_in_bounds { at + silence_command ≤ length s.now }
     requires s_len_bound { length s.now ≤ longest_sheet }
     ensures { (known : Known) → result ≡ row_at header known s.now at silence_row }
 {
     let word = s[at + 1];
     if WORDS <= word as usize {
-        return out_of_range(at + 1);
+        return Err(out_of_range(at + 1));
     }
     let map = bigendian::number_at(s, at + 2, 4) as u32;
     if silence::names_beyond(header.size, word, map) {
-        return Command::Refused(Refusal::ToneBeyondLine((at + 2) as u16));
+        return Err(Refusal::ToneBeyondLine((at + 2) as u16));
     }
-    Command::Silence(word, map)
+    Ok(Command::Silence(word, map))
 }
 
 // How many bytes the command of a byte has in all: a twin one more than its short command, and a byte of no command as many as the end. None

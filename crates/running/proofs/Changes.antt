@@ -16,7 +16,7 @@ use Rattle.steps.specs.Runs as rule
 use Rattle.steps.proofs.Search.{Earliest, earliest_free-is, Latest, latest_held-is}
 use Rattle.steps.proofs.Changes.{taking-within, total-taking, bits-taking, giving_up-within, total-giving_up, bits-giving_up, same_bits, earliest-giving_up}
 use Rattle.steps.proofs.Order.{before-place}
-use Rattle.line.specs.Arrays.{Arrays, limit_at, cost_at, doublings_at, rest_at, ArraysInRange, StandsFor}
+use Rattle.line.specs.Arrays.{Arrays, steps_in, ArraysInRange, StandsFor}
 use Rattle.line.proofs.Arrays.{stands-under, bits-high}
 use Rattle.ranks.specs.Ranks.{free_rank, held_rank, rank_free}
 use Rattle.ranks.proofs.Kept.{ranked-set}
@@ -45,8 +45,7 @@ module _ {count : ℕ} {A : Arrays} {bits : List ℕ} {T : Tones} {t : Table} (S
 -- the ranks of a tone are stored with its bits
 pub followed : {A : Arrays} {r : Running} {free held new_free new_held : List ℕ} (i b : ℕ) (s : Totals) → i < most_tones → length r.bits ≡ most_tones
     → (length free ≡ most_tones) × (length held ≡ most_tones)
-    → new_free ≡ set free i (free_rank i (limit_at A i) (cost_at A i) (doublings_at A i) (rest_at A i) b)
-    → new_held ≡ set held i (held_rank i (cost_at A i) (doublings_at A i) (rest_at A i) b)
+    → new_free ≡ set free i (free_rank i (steps_in A i) b) → new_held ≡ set held i (held_rank i (steps_in A i) b)
     → RanksFollow A r (record { bits = set r.bits i b; totals = s }) free held new_free new_held (λ n. i < n)
 followed i b s l n m f h = record { still_ranked = λ count q R. rw (f, h) (ranked-set R i b q (omega arith) (omega arith) (omega arith)) }
 
@@ -138,7 +137,7 @@ module _ {count : ℕ} {A : Arrays} {r : Running} {T : Tones} {t : Table} (S : S
 
 -- ---- what the code may do
 
-module _ {count : ℕ} {A : Arrays} {r : Running} (R : Runnable count A r) where
+module _ {A : Arrays} {r : Running} (R : Runnable (length A) A r) where
   pub power-high : r.totals.power < 2 ^ 62
   power-high = omega (arith, R.stands.sums.same_power, R.bounded R.table R.stands.table.within)
 
@@ -147,7 +146,6 @@ module _ {count : ℕ} {A : Arrays} {r : Running} (R : Runnable count A r) where
       let S = R.stands.table in
       let l = inside S F.free.tone in
       record {
-        count = count;
         in_range = R.in_range;
         tone = l;
         free = omega (arith, F.free.below, S.same_bits f.tone l, S.describes.same_limit f.tone l);
@@ -167,7 +165,6 @@ module _ {count : ℕ} {A : Arrays} {r : Running} (R : Runnable count A r) where
       let l = inside S H.held.tone in
       let top : R.table ! h.tone ≡ suc (R.table ! h.tone - 1) = omega (arith, H.held.held) in
       record {
-        count = count;
         in_range = R.in_range;
         tone = l;
         held = omega (arith, H.held.held, S.same_bits h.tone l);
@@ -177,7 +174,7 @@ module _ {count : ℕ} {A : Arrays} {r : Running} (R : Runnable count A r) where
       }
 
 -- after the later step of an exchange is given up
-pub can-exchange : {count : ℕ} {A : Arrays} {r : Running} (R : Runnable count A r) {h f : Step} → length r.bits ≡ most_tones
+pub can-exchange : {A : Arrays} {r : Running} (R : Runnable (length A) A r) {h f : Step} → length r.bits ≡ most_tones
     → LastHeld R.tones R.table h × NextFree R.tones (rule.giving_up R.table h.tone) f → CanTake A (given_up r h) f
 can-exchange {r = r} R {h} n B =
     let S = R.stands in

@@ -1,6 +1,6 @@
 -- The running table beside the tones and the table of crate steps that it stands for; what each move does to it; what a step answers.
 -- Assumes nothing.
-use Rattle.std.specs.Prelude.{List, ◌≡◌, ℕ, suc, ◌+◌, ◌-◌, ◌^◌, ◌≤◌, ◌<◌, get_or, set}
+use Rattle.std.specs.Prelude.{List, ◌≡◌, ℕ, suc, ◌+◌, ◌-◌, ◌^◌, ◌≤◌, ◌<◌, length, get_or, set}
 use Rattle.steps.specs.Tones.{Tones, step, Table, ◌!◌, Held, Free, total_bits, total_power, KeepsLimits}
 use Rattle.steps.specs.Runs as rule
 use Rattle.line.specs.Arrays.{Arrays, limit_at, ArraysInRange, StandsFor}
@@ -55,18 +55,16 @@ exchanged r h f = taken (given_up r h) f
 
 -- A step of one of the tones can be taken: it is free, and the totals stay within 32 and 64 bits.
 pub record CanTake (A : Arrays) (r : Running) (f : Step) : Type 0 where
-  pub count : ℕ
-  pub in_range : ArraysInRange count A
-  pub tone : f.tone < count
+  pub in_range : ArraysInRange (length A) A
+  pub tone : f.tone < length A
   pub free : get_or r.bits f.tone 0 < limit_at A f.tone
   pub bits_bounded : r.totals.bits + 1 < 2 ^ 32
   pub power_bounded : r.totals.power + f.size < 2 ^ 64
 
 -- A step of one of the tones can be given up: it is held, and the totals have its bit and its size.
 pub record CanGiveUp (A : Arrays) (r : Running) (h : Step) : Type 0 where
-  pub count : ℕ
-  pub in_range : ArraysInRange count A
-  pub tone : h.tone < count
+  pub in_range : ArraysInRange (length A) A
+  pub tone : h.tone < length A
   pub held : 0 < get_or r.bits h.tone 0
   pub under : get_or r.bits h.tone 0 ≤ limit_at A h.tone
   pub bits_bounded : 0 < r.totals.bits

@@ -2,13 +2,14 @@
 // and comes back with the answer 'moved' or 'finished'.'
 #![tactic(auto)]
 
-ghost use Rattle.std.specs.Prelude.{◌≡◌, ◌<◌};
+ghost use Rattle.std.specs.Prelude.{◌≡◌, ◌<◌, length};
 ghost use Rattle.steps.specs.Runs.{taking, giving_up};
-ghost use Rattle.line.specs.Arrays.{arrays};
 ghost use Rattle.ranks.specs.Ranks.{Ranked};
 ghost use Rattle.running.specs.Running.{taken, given_up, exchanged, CanTake, CanGiveUp, NextFree, LastHeld, Leads, RanksFollow, Runnable, StepsBy};
 
+use line::Steps;
 use moves::{Move, Rule, Step};
+use ranks::Ranks;
 use sizes::TONES;
 
 // The sums over the tones of a table's bits and of its powers.
@@ -25,7 +26,7 @@ pub struct Running {
     pub totals: Totals,
 }
 
-// What a step answers.
+// What a step answers. It goes beside the table, and not into a Result: document 01 has the table come back with it.
 #[derive(Clone, Copy)]
 pub enum Progress {
     Moved,
@@ -43,144 +44,83 @@ pub struct Stepped {
 // twice, in and out, whatever its move.
 impl Running {
     // Takes a free step: one bit more on its tone and in all, and its size more power. The tone's kept ranks follow.
-    fn take(
-        mut self,
-        f: Step,
-        limits: &[u8; TONES],
-        costs: &[u32; TONES],
-        doublings: &[u8; TONES],
-        rests: &[u32; TONES],
-        free: &mut [u64; TONES],
-        held: &mut [u64; TONES],
-    ) -> Running
-        requires { CanTake (arrays limits.now costs.now doublings.now rests.now) self f }
+    fn take(mut self, f: Step, tones: &[Steps], ranks: &mut Ranks) -> Running
+        requires { CanTake tones.now self f }
         ensures value { result ≡ taken self f }
-        ensures leads { Leads (arrays limits.now costs.now doublings.now rests.now) self result (λ T t. NextFree T t f) (λ t. taking t f.tone) }
-        ensures ranks_follow { RanksFollow (arrays limits.now costs.now doublings.now rests.now) self result free.old held.old free.new held.new (λ n. f.tone < n) }
+        ensures leads { Leads tones.now self result (λ T t. NextFree T t f) (λ t. taking t f.tone) }
+        ensures ranks_follow { RanksFollow tones.now self result ranks.old.free ranks.old.held ranks.new.free ranks.new.held (λ n. f.tone < n) }
     {
         let mut bits = self.bits;
         let tone = f.tone;
         let more = bits[tone] + 1;
         bits[tone] = more;
         self.bits = bits;
-        let mut totals = self.totals;
-        totals.bits += 1;
-        totals.power += f.size;
-        self.totals = totals;
-        ranks::put_ranks(
-            tone,
-            limits[tone],
-            costs[tone],
-            doublings[tone],
-            rests[tone],
-            more,
-            free,
-            held,
-        );
+        self.totals.bits += 1;
+        self.totals.power += f.size;
+        ranks.put(tone, tones[tone], more);
         self
     }
 
     // Gives up a held step: one bit fewer on its tone and in all, and its size less power. The tone's kept ranks follow.
-    fn give_up(
-        mut self,
-        h: Step,
-        limits: &[u8; TONES],
-        costs: &[u32; TONES],
-        doublings: &[u8; TONES],
-        rests: &[u32; TONES],
-        free: &mut [u64; TONES],
-        held: &mut [u64; TONES],
-    ) -> Running
-        requires { CanGiveUp (arrays limits.now costs.now doublings.now rests.now) self h }
+    fn give_up(mut self, h: Step, tones: &[Steps], ranks: &mut Ranks) -> Running
+        requires { CanGiveUp tones.now self h }
         ensures value { result ≡ given_up self h }
-        ensures leads { Leads (arrays limits.now costs.now doublings.now rests.now) self result (λ T t. LastHeld T t h) (λ t. giving_up t h.tone) }
-        ensures ranks_follow { RanksFollow (arrays limits.now costs.now doublings.now rests.now) self result free.old held.old free.new held.new (λ n. h.tone < n) }
+        ensures leads { Leads tones.now self result (λ T t. LastHeld T t h) (λ t. giving_up t h.tone) }
+        ensures ranks_follow { RanksFollow tones.now self result ranks.old.free ranks.old.held ranks.new.free ranks.new.held (λ n. h.tone < n) }
     {
         let mut bits = self.bits;
         let tone = h.tone;
         let fewer = bits[tone] - 1;
         bits[tone] = fewer;
         self.bits = bits;
-        let mut totals = self.totals;
-        totals.bits -= 1;
-        totals.power -= h.size;
-        self.totals = totals;
-        ranks::put_ranks(
-            tone,
-            limits[tone],
-            costs[tone],
-            doublings[tone],
-            rests[tone],
-            fewer,
-            free,
-            held,
-        );
+        self.totals.bits -= 1;
+        self.totals.power -= h.size;
+        ranks.put(tone, tones[tone], fewer);
         self
     }
 
     // Exchanges a held step for a free one: as many bits in all. The tones' kept ranks follow.
-    fn exchange(
-        mut self,
-        h: Step,
-        f: Step,
-        limits: &[u8; TONES],
-        costs: &[u32; TONES],
-        doublings: &[u8; TONES],
-        rests: &[u32; TONES],
-        free: &mut [u64; TONES],
-        held: &mut [u64; TONES],
-    ) -> Running
-        requires can_give_up { CanGiveUp (arrays limits.now costs.now doublings.now rests.now) self h }
-        requires can_take { CanTake (arrays limits.now costs.now doublings.now rests.now) (given_up self h) f }
+    fn exchange(mut self, h: Step, f: Step, tones: &[Steps], ranks: &mut Ranks) -> Running
+        requires can_give_up { CanGiveUp tones.now self h }
+        requires can_take { CanTake tones.now (given_up self h) f }
         ensures value { result ≡ exchanged self h f }
-        ensures leads { Leads (arrays limits.now costs.now doublings.now rests.now) self result
+        ensures leads { Leads tones.now self result
             (λ T t. LastHeld T t h × NextFree T (giving_up t h.tone) f) (λ t. taking (giving_up t h.tone) f.tone) }
-        ensures ranks_follow { RanksFollow (arrays limits.now costs.now doublings.now rests.now) self result free.old held.old free.new held.new
+        ensures ranks_follow { RanksFollow tones.now self result ranks.old.free ranks.old.held ranks.new.free ranks.new.held
             (λ n. (h.tone < n) × (f.tone < n)) }
     {
-        self = self.give_up(h, limits, costs, doublings, rests, free, held);
-        self.take(f, limits, costs, doublings, rests, free, held)
+        self = self.give_up(h, tones, ranks);
+        self.take(f, tones, ranks)
     }
 
     // One step of a rule: the one move that it names, or none.
-    pub fn step(
-        mut self,
-        rule: Rule,
-        budget: u64,
-        count: usize,
-        limits: &[u8; TONES],
-        costs: &[u32; TONES],
-        doublings: &[u8; TONES],
-        rests: &[u32; TONES],
-        free: &mut [u64; TONES],
-        held: &mut [u64; TONES],
-    ) -> Stepped
-        requires runnable { Runnable count (arrays limits.now costs.now doublings.now rests.now) self }
-        requires ranked { Ranked count (arrays limits.now costs.now doublings.now rests.now) self.bits free.old held.old }
-        ensures answer { StepsBy count (arrays limits.now costs.now doublings.now rests.now) rule budget self result }
-        ensures ranks { Ranked count (arrays limits.now costs.now doublings.now rests.now) result.running.bits free.new held.new }
+    pub fn step(mut self, rule: Rule, budget: u64, tones: &[Steps], ranks: &mut Ranks) -> Stepped
+        requires runnable { Runnable (length tones.now) tones.now self }
+        requires ranked { Ranked (length tones.now) tones.now self.bits ranks.old.free ranks.old.held }
+        ensures answer { StepsBy (length tones.now) tones.now rule budget self result }
+        ensures ranks { Ranked (length tones.now) tones.now result.running.bits ranks.new.free ranks.new.held }
     {
-        let earliest = search::least(count, free);
+        let count = tones.len();
+        let earliest = search::least(count, &ranks.free);
         let latest = match rule {
             Rule::Add => 0,
-            Rule::Refit => u64::MAX - search::least(count, held),
+            Rule::Refit => u64::MAX - search::least(count, &ranks.held),
         };
-        let next = moves::next_move(rule, earliest, latest, self.totals.power, budget);
-        match next {
-            Move::Nothing => Stepped {
+        match moves::next_move(rule, earliest, latest, self.totals.power, budget) {
+            None => Stepped {
                 running: self,
                 progress: Progress::Finished,
             },
-            Move::Take(f) => Stepped {
-                running: self.take(f, limits, costs, doublings, rests, free, held),
+            Some(Move::Take(f)) => Stepped {
+                running: self.take(f, tones, ranks),
                 progress: Progress::Moved,
             },
-            Move::GiveUp(h) => Stepped {
-                running: self.give_up(h, limits, costs, doublings, rests, free, held),
+            Some(Move::GiveUp(h)) => Stepped {
+                running: self.give_up(h, tones, ranks),
                 progress: Progress::Moved,
             },
-            Move::Exchange(h, f) => Stepped {
-                running: self.exchange(h, f, limits, costs, doublings, rests, free, held),
+            Some(Move::Exchange(h, f)) => Stepped {
+                running: self.exchange(h, f, tones, ranks),
                 progress: Progress::Moved,
             },
         }

@@ -14,12 +14,6 @@ const TEXT_ROOM: usize = 524_288;
 // What a buffer is filled with, so that a byte that is written shows.
 const FILL: u8 = 0xa5;
 
-pub fn wide(byte: u8) -> u64
-    ensures { result ≡ byte }
-{
-    byte as u64
-}
-
 // A buffer for the text.
 pub fn text_buffer() -> [u8; TEXT_ROOM]
     ensures sized { text_room ≡ length result }
@@ -41,8 +35,7 @@ pub fn within(n: usize, buffer: &[u8]) -> usize
     ensures prefix_len { IsPrefixLen result buffer.now }
     ensures number { result ≡ min n (length buffer.now) }
 {
-    let bytes = buffer.len();
-    if n < bytes { n } else { bytes }
+    n.min(buffer.len())
 }
 
 // Whether two buffers hold the same bytes.
@@ -50,12 +43,5 @@ pub fn same(a: &[u8; ROOM], b: &[u8; ROOM]) -> bool
     ensures yes { result ≡ true → SameBytes room a.now b.now }
     ensures no { result ≡ false → SameBytes room a.now b.now → ⊥ }
 {
-    let mut i = 0;
-    while i < ROOM {
-        if a[i] != b[i] {
-            return false;
-        }
-        i += 1;
-    }
-    true
+    a == b
 }

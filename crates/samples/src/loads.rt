@@ -15,13 +15,11 @@
 // and of many budgets, 12 bytes each, they are
 //
 //   budgets 0:0 6:39             bits:power for each budget
-use crate::printing::{print, print_number, print_pair, print_touched};
-use guarded::GuardedLoad;
+use crate::printing::{print, print_number, print_outcome, print_pair, print_touched};
 use line::SetBy;
-use loadings::{Loaded, Refitted};
-use refusals::{Refusal, WriteAnswer, refusal_number, refusal_place};
-use samplebuffers::{ROOM, filled, same, wide, within};
-use sheet::Checked;
+use refusals::Refusal;
+use running::Totals;
+use samplebuffers::{ROOM, filled, same, within};
 use sizes::{BUDGET_BYTES, LIMIT_BYTES, TONE_BYTES, TOTALS_BYTES};
 
 // A table of more bytes than this, those of 32 tones, is printed as a sum.
@@ -39,96 +37,62 @@ pub(crate) enum Call {
     Guarded,
 }
 
-// What a call answers: a refusal's number and place, or number 0 and the totals. The third is a re-fit's
-// moves, or the plain loading's bits beside a guarded one's; a loading has none, and the calls that only
-// write have no totals.
-#[derive(Clone, Copy)]
-struct Totals {
-    number: u32,
-    place: u32,
+// What an accepted call answers. The third is a re-fit's moves, or the plain loading's bits beside a guarded one's; a loading has none, and
+// the calls that only write have no totals.
+#[derive(Clone, Copy, PartialEq, Eq)]
+struct Answer {
     bits: u32,
     power: u64,
     third: u32,
 }
 
-fn numbered(number: u32, place: u32) -> Totals {
-    Totals {
-        number: number,
-        place: place,
-        bits: 0,
-        power: 0,
-        third: 0,
-    }
-}
+const NOTHING: Answer = Answer {
+    bits: 0,
+    power: 0,
+    third: 0,
+};
 
-fn refused(why: Refusal) -> Totals {
-    numbered(refusal_number(why), refusal_place(why))
-}
-
-fn written(answer: WriteAnswer) -> Totals {
-    match answer {
-        WriteAnswer::Written => numbered(0, 0),
-        WriteAnswer::Refused(why) => refused(why),
-    }
-}
-
-fn loaded(answer: Loaded) -> Totals {
-    match answer {
-        Loaded::Totals(bits, power) => Totals {
-            number: 0,
-            place: 0,
-            bits: bits,
-            power: power,
-            third: 0,
-        },
-        Loaded::Refused(why) => refused(why),
-    }
-}
-
-fn refitted(answer: Refitted) -> Totals {
-    match answer {
-        Refitted::Totals(bits, power, moves) => Totals {
-            number: 0,
-            place: 0,
-            bits: bits,
-            power: power,
-            third: moves,
-        },
-        Refitted::Refused(why) => refused(why),
-    }
-}
-
-fn guarded(answer: GuardedLoad) -> Totals {
-    match answer {
-        GuardedLoad::Totals(bits, power, plain) => Totals {
-            number: 0,
-            place: 0,
-            bits: bits,
-            power: power,
-            third: plain,
-        },
-        GuardedLoad::Refused(why) => refused(why),
+fn of_totals(totals: Totals, third: u32) -> Answer {
+    Answer {
+        bits: totals.bits,
+        power: totals.power,
+        third,
     }
 }
 
 // Makes a call. A re-fit takes a start, and many budgets their list in its place; the others take neither.
-fn made(call: Call, sheet: &[u8], start: &[u8], table: &mut [u8]) -> Totals {
-    match call {
-        Call::Most => loaded(loader::load_most(sheet, table)),
-        Call::Target(bits) => loaded(loader::load_target(sheet, bits, table)),
-        Call::Refit => refitted(loader::refit(sheet, start, table)),
-        Call::Step => refitted(loader::refit_step(sheet, start, table)),
-        Call::Limits => written(loader::limits(sheet, table)),
-        Call::Budgets => written(loader::budgets(sheet, start, table)),
-        Call::Guarded => guarded(loader::guarded(sheet, table)),
-    }
+fn made(call: Call, sheet: &[u8], start: &[u8], table: &mut [u8]) -> Result<Answer, Refusal> {
+    Ok(match call {
+        Call::Most => of_totals(loader::load_most(sheet, table)?, 0),
+        Call::Target(bits) => of_totals(loader::load_target(sheet, bits, table)?, 0),
+        Call::Refit => {
+            let refitted = loader::refit(sheet, start, table)?;
+            of_totals(refitted.totals, refitted.moves)
+        }
+        Call::Step => {
+            let refitted = loader::refit_step(sheet, start, table)?;
+            of_totals(refitted.totals, refitted.moves)
+        }
+        Call::Limits => {
+            loader::limits(sheet, table)?;
+            NOTHING
+        }
+        Call::Budgets => {
+            loader::budgets(sheet, start, table)?;
+            NOTHING
+        }
+        Call::Guarded => {
+            let guarded = loader::guarded(sheet, table)?;
+            of_totals(guarded.totals, guarded.plain)
+        }
+    })
 }
 
 // How many tones a sheet has; 0 for a sheet that is refused.
 fn tones_of(sheet: &[u8]) -> u16 {
     match loader::check(sheet) {
-        Checked::Counts(n, _, _) => n,
-        Checked::Refused(_) => 0,
+        Ok(counts) => counts.size,
+        Err(_) => 0,
     }
 }
 
@@ -142,7 +106,7 @@ fn written_bytes(call: Call, sheet: &[u8], start: &[u8]) -> usize {
 }
 
 // Prints what a call answers and writes that is not refused.
-fn print_written(call: Call, t: Totals, written: &[u8]) {
+fn print_written(call: Call, t: Answer, written: &[u8]) {
     match call {
         Call::Limits => print_limits(written),
         Call::Budgets => print_budgets(written),
@@ -182,12 +146,10 @@ fn print_set_by(by: SetBy) {
 // Prints limits, 2 bytes a tone, as limit:what set it with a blank before each.
 fn print_limits(limits: &[u8]) {
     print(b"limits");
-    let mut at = 0;
-    while LIMIT_BYTES <= limits.len() - at {
+    for limit in limits.chunks_exact(LIMIT_BYTES) {
         print(b" ");
-        print_number(wide(limits[at]));
-        print_set_by(limits::set_by(limits[at + 1]));
-        at += LIMIT_BYTES;
+        print_number(limit[0] as u64);
+        print_set_by(limits::set_by(limit[1]));
     }
     print(b"\n");
 }
@@ -195,26 +157,22 @@ fn print_limits(limits: &[u8]) {
 // Prints totals, 12 bytes a budget, as bits:power with a blank before each.
 fn print_budgets(totals: &[u8]) {
     print(b"budgets");
-    let mut at = 0;
-    while TOTALS_BYTES <= totals.len() - at {
+    for entry in totals.chunks_exact(TOTALS_BYTES) {
         print(b" ");
-        print_number(bigendian::number_at(totals, at, 4));
+        print_number(bigendian::number_at(entry, 0, 4));
         print(b":");
-        print_number(bigendian::number_at(totals, at + 4, 8));
-        at += TOTALS_BYTES;
+        print_number(bigendian::number_at(entry, 4, 8));
     }
     print(b"\n");
 }
 
 // The tones of a table, 9 bytes each, as bits:power with a blank before.
 fn print_tones(table: &[u8]) {
-    let mut at = 0;
-    while TONE_BYTES <= table.len() - at {
+    for entry in table.chunks_exact(TONE_BYTES) {
         print(b" ");
-        print_number(wide(table[at]));
+        print_number(entry[0] as u64);
         print(b":");
-        print_number(bigendian::number_at(table, at + 1, 8));
-        at += TONE_BYTES;
+        print_number(bigendian::number_at(entry, 1, 8));
     }
 }
 
@@ -222,11 +180,9 @@ fn print_tones(table: &[u8]) {
 fn sum(bytes: &[u8]) -> u64 {
     let mut of_bytes: u64 = 0;
     let mut sum: u64 = 0;
-    let mut i = 0;
-    while i < bytes.len() {
-        of_bytes = std::num::wrapping_add_u64(of_bytes, wide(bytes[i]));
-        sum = std::num::wrapping_add_u64(sum, of_bytes);
-        i += 1;
+    for byte in bytes {
+        of_bytes = of_bytes.wrapping_add(*byte as u64);
+        sum = sum.wrapping_add(of_bytes);
     }
     sum
 }
@@ -244,14 +200,13 @@ fn print_table(table: &[u8]) {
 
 // Makes a call again, into a buffer that is just long enough. The whole buffers are compared: past
 // the table both are as they were filled.
-fn show_exact(call: Call, sheet: &[u8], start: &[u8], table: [u8; ROOM], t: Totals, bytes: usize) {
+fn show_exact(call: Call, sheet: &[u8], start: &[u8], table: [u8; ROOM], t: Answer, bytes: usize) {
     let mut again = filled();
     let room = within(bytes, &again);
-    let u = made(call, sheet, start, &mut again[..room]);
-    let equal = t.number == u.number
-        && t.bits == u.bits
-        && t.power == u.power
-        && t.third == u.third;
+    let equal = match made(call, sheet, start, &mut again[..room]) {
+        Ok(u) => t == u,
+        Err(_) => false,
+    };
     if equal && same(&table, &again) {
         print(b"exact same\n");
     } else {
@@ -259,16 +214,14 @@ fn show_exact(call: Call, sheet: &[u8], start: &[u8], table: [u8; ROOM], t: Tota
     }
 }
 
-fn one_less(n: usize) -> usize {
-    if n == 0 { 0 } else { n - 1 }
-}
-
 // Makes a call with a buffer one byte too short, or none for a sheet that is refused.
 fn show_short(call: Call, sheet: &[u8], start: &[u8], bytes: usize) {
     let mut table = filled();
-    let room = within(one_less(bytes), &table);
-    let t = made(call, sheet, start, &mut table[..room]);
-    print_pair(b"short ", t.number as u64, t.place as u64);
+    let room = within(bytes.saturating_sub(1), &table);
+    print_outcome(
+        b"short ",
+        made(call, sheet, start, &mut table[..room]).err(),
+    );
     print_touched(&table);
 }
 
@@ -277,14 +230,16 @@ fn show_short(call: Call, sheet: &[u8], start: &[u8], bytes: usize) {
 pub(crate) fn show(call: Call, sheet: &[u8], start: &[u8]) {
     let bytes = written_bytes(call, sheet, start);
     let mut table = filled();
-    let t = made(call, sheet, start, &mut table);
-    if t.number == 0 {
-        let n = within(bytes, &table);
-        print_written(call, t, &table[..n]);
-        show_exact(call, sheet, start, table, t, bytes);
-    } else {
-        print_pair(b"refused ", t.number as u64, t.place as u64);
-        print_touched(&table);
+    match made(call, sheet, start, &mut table) {
+        Ok(t) => {
+            let n = within(bytes, &table);
+            print_written(call, t, &table[..n]);
+            show_exact(call, sheet, start, table, t, bytes);
+        }
+        Err(why) => {
+            print_outcome(b"refused ", Some(why));
+            print_touched(&table);
+        }
     }
     show_short(call, sheet, start, bytes);
 }

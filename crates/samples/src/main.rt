@@ -19,44 +19,17 @@ mod printing;
 ghost use Rattle.io.specs.Counts.{IsPrefixLen};
 
 use loads::Call;
-use printing::{print, print_bytes, print_number, print_pair, print_touched};
-use refusals::{refusal_number, refusal_place};
+use printing::{print, print_bytes, print_number, print_outcome, print_pair, print_touched};
 use samplebuffers::{ROOM, filled, same, within};
 use sampletext::read_bytes;
-use sheet::Checked;
-use tidy::Tidied;
-
-// What tidying answers: a refusal's number and place, or number 0 and the length.
-#[derive(Clone, Copy)]
-struct Outcome {
-    number: u32,
-    place: u32,
-    length: usize,
-}
-
-// Tidies a sheet into a buffer.
-fn tidied(sheet: &[u8], out: &mut [u8]) -> Outcome {
-    match loader::tidy(sheet, out) {
-        Tidied::Length(n) => Outcome {
-            number: 0,
-            place: 0,
-            length: n,
-        },
-        Tidied::Refused(r) => Outcome {
-            number: refusal_number(r),
-            place: refusal_place(r),
-            length: 0,
-        },
-    }
-}
 
 // Prints the tidy form of a sheet, then what tidying does with that form and with too little room.
 fn show_tidy(sheet: &[u8]) {
     let mut out = filled();
-    let t = tidied(sheet, &mut out);
-    let n = within(t.length, &out);
+    let length = loader::tidy(sheet, &mut out).unwrap_or(0);
+    let n = within(length, &out);
     print(b"tidy ");
-    print_number(t.length as u64);
+    print_number(length as u64);
     print(b" ");
     print_bytes(&out[..n]);
     print(b"\n");
@@ -71,10 +44,10 @@ fn show_again(form: [u8; ROOM], n: usize)
 {
     let mut again = filled();
     let room = within(n, &again);
-    let t = tidied(&form[..n], &mut again[..room]);
+    let length = loader::tidy(&form[..n], &mut again[..room]).unwrap_or(0);
     print(b"again ");
-    print_number(t.length as u64);
-    if t.length == n && same(&form, &again) {
+    print_number(length as u64);
+    if length == n && same(&form, &again) {
         print(b" same\n");
     } else {
         print(b" differs\n");
@@ -88,26 +61,21 @@ fn show_short(sheet: &[u8], n: usize) {
     }
     let mut out = filled();
     let room = within(n - 1, &out);
-    let t = tidied(sheet, &mut out[..room]);
-    print_pair(b"short ", t.number as u64, t.place as u64);
+    print_outcome(b"short ", loader::tidy(sheet, &mut out[..room]).err());
     print_touched(&out);
 }
 
 fn show_sheet(sheet: &[u8]) {
     match loader::check(sheet) {
-        Checked::Counts(n, described, silenced) => {
-            print_pair(b"check ", n as u64, described as u64);
+        Ok(counts) => {
+            print_pair(b"check ", counts.size as u64, counts.described as u64);
             print(b" ");
-            print_number(silenced as u64);
+            print_number(counts.silenced as u64);
             print(b"\n");
             show_tidy(sheet);
         }
-        Checked::Refused(r) => {
-            print_pair(
-                b"refused ",
-                refusal_number(r) as u64,
-                refusal_place(r) as u64,
-            );
+        Err(why) => {
+            print_outcome(b"refused ", Some(why));
             print(b"\n");
         }
     }

@@ -1,5 +1,6 @@
 // What the test program prints: text, numbers, bytes, and whether a buffer was written to.
-use samplebuffers::{ROOM, filled, same, wide};
+use refusals::Refusal;
+use samplebuffers::{ROOM, filled, same};
 
 pub(crate) fn print(text: &[u8]) {
     io::write_all(1, text);
@@ -11,10 +12,8 @@ pub(crate) fn print_number(n: u64) {
 
 // Bytes as two hex digits each, with no blanks.
 pub(crate) fn print_bytes(bytes: &[u8]) {
-    let mut i = 0;
-    while i < bytes.len() {
-        io::print_hex(1, wide(bytes[i]), 2);
-        i += 1;
+    for byte in bytes {
+        io::print_hex(1, *byte as u64, 2);
     }
 }
 
@@ -24,6 +23,14 @@ pub(crate) fn print_pair(word: &[u8], first: u64, second: u64) {
     print_number(first);
     print(b" ");
     print_number(second);
+}
+
+// A word, and the number and the place of a refusal; 0 and 0 where there is none.
+pub(crate) fn print_outcome(word: &[u8], why: Option<Refusal>) {
+    match why {
+        Some(why) => print_pair(word, why.number() as u64, why.place() as u64),
+        None => print_pair(word, 0, 0),
+    }
 }
 
 // Ends a line by whether a buffer is as it was filled.

@@ -51,21 +51,19 @@ fn decimal(text: &[u8], from: usize) -> Number
     ensures value { result.value ≡ spelled 0 (drop from text.now) }
 {
     let mut value: usize = 0;
-    let mut i = from;
-    while i < text.len() {
-        let d = digit(text[i]);
-        if 9 < d {
-            break;
-        }
-        if 999_999_999 < value {
-            break;
+    for (i, c) in text[from..].iter().enumerate() {
+        let d = digit(*c);
+        if 9 < d || 999_999_999 < value {
+            return Number {
+                value,
+                next: from + i,
+            };
         }
         value = value * 10 + d as usize;
-        i += 1;
     }
     Number {
-        value: value,
-        next: i,
+        value,
+        next: text.len(),
     }
 }
 
@@ -76,12 +74,7 @@ pub fn number_after(text: &[u8], at: usize) -> u32
     if text.len() <= at {
         return 0;
     }
-    let n = decimal(text, at + 1);
-    let value = n.value;
-    if 0xffff_ffff < value {
-        return 0xffff_ffff;
-    }
-    value as u32
+    decimal(text, at + 1).value.min(0xffff_ffff) as u32
 }
 
 // The item at a place; a character that starts none is one that stands there no times.
@@ -101,7 +94,7 @@ fn item_at(text: &[u8], at: usize, last: u8) -> Item
     let first = text[at];
     let second = text[at + 1];
     if first == b'+' && second == b'+' {
-        let number = std::num::wrapping_add_u8(last, 1);
+        let number = last.wrapping_add(1);
         return Item {
             byte: number,
             times: 1,
@@ -143,22 +136,14 @@ fn item_at(text: &[u8], at: usize, last: u8) -> Item
     }
 }
 
-fn least(a: usize, b: usize) -> usize
-    ensures { (result ≤ a) × (result ≤ b) × (result ≡ min a b) }
-{
-    if a < b { a } else { b }
-}
-
 // Puts a byte so many times after the n bytes of a buffer, as far as there is room, and answers how
 // many bytes it has then.
 fn put(buffer: &mut [u8], n: usize, byte: u8, times: usize) -> usize
     requires { n ≤ length buffer.old }
     ensures { result ≤ length buffer.new }
 {
-    let end = n + least(times, buffer.len() - n);
-    for i in n..end {
-        buffer[i] = byte;
-    }
+    let end = n + times.min(buffer.len() - n);
+    buffer[n..end].fill(byte);
     end
 }
 
@@ -170,6 +155,7 @@ fn read_items(text: &[u8], buffer: &mut [u8], done: Reading) -> Reading
     let mut n = done.bytes;
     let mut last = done.last;
     let mut i = 0;
+    // No `for`: each item says where the next one may start.
     while i < text.len() {
         let item = item_at(text, i, last);
         n = put(buffer, n, item.byte, item.times);
@@ -200,11 +186,13 @@ pub fn find(text: &[u8], from: usize, wanted: u8) -> usize
     ensures value { result ≡ from + skipped (drop from text.now) wanted }
     ensures bounds { (from ≤ result) × (result ≤ max from (length text.now)) }
 {
-    let mut i = from;
-    while i < text.len() && text[i] != wanted {
-        i += 1;
+    let Some(rest) = text.get(from..) else {
+        return from;
+    };
+    match rest.iter().position(|c| *c == wanted) {
+        Some(skipped) => from + skipped,
+        None => text.len(),
     }
-    i
 }
 
 // How often the group is repeated that ends at a place: the number after `)*`.
@@ -230,6 +218,7 @@ pub fn read_bytes(text: &[u8], buffer: &mut [u8]) -> usize
         last: 255,
     };
     let mut at = 0;
+    // No `for`: each group says where the next one may start.
     while at < text.len() {
         let open = find(text, at, b'(');
         reading = read_items(&text[at..open], buffer, reading);

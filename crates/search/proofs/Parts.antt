@@ -1,26 +1,18 @@
 -- The least of some of the ranks, and how the scan puts eight tones' together.
 -- Assumes nothing.
-use mathlib.Core.Bool.{cond}
 use mathlib.Core.Path.{◌≡◌, refl, ◌∙◌}
 use mathlib.Core.List.{List}
 use mathlib.Core.Logic.{◌≢◌}
-use Prim.Native.Nat.{ℕ, ◌+◌, ◌*◌, ◌≤◌, ◌<◌}
+use Prim.Native.Nat.{ℕ, ◌+◌, ◌*◌, ◌≤◌, ◌<◌, min}
 use native.Mathlib.Decide.{dec_lt}
 use native.Mathlib.Omega.{arith}
-use borrow.Author.Tests.{ltb-true, ltb-false}
-use lib.Dec.{ltb}
 use lib.ListN.{get_or}
 use Rattle.sizes.specs.Sizes.{most_tones}
-use Rattle.lists.proofs.Tests.{by-test}
 use Rattle.ranks.specs.Ranks.{no_step, NoneFrom, Among, LeastOf}
-
--- the lesser of two, as the code picks it
-abbrev lesser_of : ℕ → ℕ → ℕ
-lesser_of a b = cond (ltb b a) b a
 
 -- the lesser of the ranks of two tones
 abbrev lesser_at : List ℕ → (i j : ℕ) → ℕ
-lesser_at ranks i j = lesser_of (get_or ranks i 0) (get_or ranks j 0)
+lesser_at ranks i j = min (get_or ranks i 0) (get_or ranks j 0)
 
 -- the least of the ranks from tone m on, below tone n
 pub record Part (ranks : List ℕ) (m n r : ℕ) : Type 0 where
@@ -45,11 +37,8 @@ module _ {ranks : List ℕ} where
   }
 
   -- two parts, one after the other
-  both : {m k n a b : ℕ} → Part ranks m k a → Part ranks k n b → k ≤ n → Part ranks m n (lesser_of a b)
-  both {m} {k} {n} {a} {b} P Q h =
-      by-test (Part ranks m n) (ltb b a)
-      (λ e. record { low = lower b (omega (arith, ltb-true b a e)) (omega arith); among = Q.among })
-      (λ e. record { low = lower a (omega arith) (omega (arith, ltb-false b a e)); among = λ s. wider (P.among s) })
+  both : {m k n a b : ℕ} → Part ranks m k a → Part ranks k n b → k ≤ n → Part ranks m n (min a b)
+  both {m} {k} {n} {a} {b} P Q h = by (dec_lt b a)
     where
       lower : (r : ℕ) → r ≤ a → r ≤ b → (i : ℕ) → m ≤ i → i < n → r ≤ get_or ranks i 0
       lower r ra rb i g l = go (dec_lt i k)
@@ -61,6 +50,10 @@ module _ {ranks : List ℕ} where
       wider : {r : ℕ} → Among k ranks r → Among n ranks r
       wider A = record { tone = A.tone; inside = omega (arith, A.inside); there = A.there }
 
+      by : Dec (b < a) → Part ranks m n (min a b)
+      by (yes s) = let e : min a b ≡ b = omega arith in rw e (record { low = lower b (omega arith) (omega arith); among = Q.among })
+      by (no s) = let e : min a b ≡ a = omega arith in rw e (record { low = lower a (omega arith) (omega arith); among = λ q. wider (P.among q) })
+
   -- two tones side by side
   two : (i j n : ℕ) → j ≡ i + 1 → n ≡ i + 2 → Part ranks i n (lesser_at ranks i j)
   two i j n e f = both (one i j e) (one j n (omega arith)) (omega arith)
@@ -68,8 +61,7 @@ module _ {ranks : List ℕ} where
   -- a turn of the scan
   pub eight-more : {i r : ℕ} → Part ranks 0 i r
       → Part ranks 0 (i + 8)
-      (lesser_of r
-      (lesser_of (lesser_of (lesser_at ranks i (i + 1)) (lesser_at ranks (i + 2) (i + 3))) (lesser_of (lesser_at ranks (i + 4) (i + 5)) (lesser_at ranks (i + 6) (i + 7)))))
+      (min r (min (min (lesser_at ranks i (i + 1)) (lesser_at ranks (i + 2) (i + 3))) (min (lesser_at ranks (i + 4) (i + 5)) (lesser_at ranks (i + 6) (i + 7)))))
   eight-more {i} P =
       both P
       (both

@@ -2,18 +2,11 @@
 // of each tone. What it promises, `LeastOf`, asks nothing of the way it is found.
 #![tactic(auto)]
 
-ghost use Rattle.std.specs.Prelude.{cond, ◌≡◌, ◌≤◌, ltb};
+ghost use Rattle.std.specs.Prelude.{◌≤◌};
 ghost use Rattle.sizes.specs.Sizes.{most_tones};
 ghost use Rattle.ranks.specs.Ranks.{NoneFrom, LeastOf};
 
 use sizes::TONES;
-
-// The lesser of two numbers.
-fn lesser(a: u64, b: u64) -> u64
-    ensures { result ≡ cond (ltb b a) b a }
-{
-    if b < a { b } else { a }
-}
 
 // The least of the ranks. Eight tones a turn: then few of the comparisons wait for one another.
 pub fn least(count: usize, ranks: &[u64; TONES]) -> u64
@@ -21,15 +14,13 @@ pub fn least(count: usize, ranks: &[u64; TONES]) -> u64
     requires none_from { NoneFrom count ranks.now }
     ensures { LeastOf count ranks.now result }
 {
-    let mut least: u64 = u64::MAX;
-    let mut i: usize = 0;
-    while i < count {
-        let one = lesser(ranks[i], ranks[i + 1]);
-        let two = lesser(ranks[i + 2], ranks[i + 3]);
-        let three = lesser(ranks[i + 4], ranks[i + 5]);
-        let four = lesser(ranks[i + 6], ranks[i + 7]);
-        least = lesser(least, lesser(lesser(one, two), lesser(three, four)));
-        i += 8;
+    let mut least = u64::MAX;
+    for i in (0..count).step_by(8) {
+        let one = ranks[i].min(ranks[i + 1]);
+        let two = ranks[i + 2].min(ranks[i + 3]);
+        let three = ranks[i + 4].min(ranks[i + 5]);
+        let four = ranks[i + 6].min(ranks[i + 7]);
+        least = least.min(one.min(two).min(three.min(four)));
     }
     least
 }

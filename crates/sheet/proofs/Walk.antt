@@ -11,7 +11,7 @@ use lib.ListN.{length, get_or}
 use Rattle.lists.proofs.Tests.{by-test}
 use Rattle.line.specs.Line.{Line}
 use Rattle.rows.specs.declared.Command.{Command}
-use Rattle.rows.specs.declared.Command.TheVariants.{End, Refused, Head, Describe, Rest, High, Silence}
+use Rattle.rows.specs.declared.Command.TheVariants.{End, Head, Describe, Rest, High, Silence}
 use Rattle.rows.specs.Rows.{Row, width}
 use Rattle.addresses.specs.Addresses.{addressed}
 use Rattle.command.specs.Format.{Format, is_too_long}
@@ -27,7 +27,6 @@ module _ (F : Format) (s : List ℕ) (I : (at stage : ℕ) → SoFar → Type 0)
   -- what holds after a command that brings the reading to a place
   abbrev pub Goes : (at stage : ℕ) → SoFar → (next : ℕ) → Command → Type 0
   Goes at stage x next End = next ≡ length s → Q x.line
-  Goes at stage x next (Refused q) = Unit {0}
   Goes at stage x next (Head h) = I next (suc stage) (so_far_after (Head h) s at x)
   Goes at stage x next (Describe i) = I next stage (so_far_after (Describe i) s at x)
   Goes at stage x next (Rest i) = I next stage (so_far_after (Rest i) s at x)
@@ -52,7 +51,6 @@ module _ (F : Format) (s : List ℕ) (I : (at stage : ℕ) → SoFar → Type 0)
   module _ (kept : (at stage : ℕ) (x : SoFar) → I at stage x → Each (Leads at stage x) (F.rows stage)) where
     after : (at stage : ℕ) (x : SoFar) (next : ℕ) → next ≤ length s → (c : Command) → Goes at stage x next c → After (after_command c next s at stage x)
     after at stage x next inside End g = by-test Means (ltb next (length s)) (λ t. tt) (λ t. g (omega (arith, ltb-false next (length s) t)))
-    after at stage x next inside (Refused q) g = tt
     after at stage x next inside (Head h) g = g
     after at stage x next inside (Describe i) g = g
     after at stage x next inside (Rest i) g = g
@@ -62,7 +60,7 @@ module _ (F : Format) (s : List ℕ) (I : (at stage : ℕ) → SoFar → Type 0)
     -- one command
     pub after_one : (at stage : ℕ) (x : SoFar) → I at stage x → After (after_decoded (command_in F x s at stage) s at stage x)
     after_one at stage x i =
-        by_rows F (header_of x.line) (known_of x (addressed s at)) s at stage (λ d. After (after_decoded d s at stage x)) (λ q next. tt)
+        by_rows F (header_of x.line) (known_of x (addressed s at)) s at stage (λ d. After (after_decoded d s at stage x)) (λ q. tt)
         (each_of (λ r k e inside p. after at stage x (at + 1 + width r.operands) inside (r.does (header_of x.line) (values [] s (at + 1) r.operands)) (k e inside p))
         (F.rows stage)
         (kept at stage x i))

@@ -5,17 +5,17 @@ use mathlib.Core.Path.{◌≡◌, sym, ap, ◌∙◌}
 use Prim.Native.Nat.{ℕ, ◌≤◌, ◌<◌}
 use lib.ListN.{length}
 use lib.Seq.{sets}
+use Rattle.std.specs.Prelude.{Result}
 use Rattle.line.specs.Line.{Line}
 use Rattle.refusals.specs.declared.Refusal.{Refusal}
 use Rattle.refusals.specs.declared.Refusal.TheVariants.{DestinationTooSmall}
 use Rattle.refusals.specs.Refusals.{Outcome}
-use Rattle.refusals.specs.declared.WriteAnswer.{WriteAnswer}
 use Rattle.refusals.specs.Writing.{Writing, writes, turned_down, after_writing, write_answer, write_numbers, write_outcome}
 use Rattle.refusals.proofs.Writing.{too_small, fits, stores-are, untouched, same_numbers}
 use Rattle.sheet.specs.Reading.{Meaning, accepted, refused}
 use Rattle.sheet.specs.Writes.{writing}
 
--- such a call: the bytes, and what it answers, as its enum and in the paper's numbers
+-- such a call: the bytes, and what it answers, as its result and in the paper's numbers
 pub record WritingCall (A : Type 0) : Type 1 where
   pub bytes : Line → List ℕ
   pub answer : Writing → A
@@ -24,7 +24,7 @@ pub record WritingCall (A : Type 0) : Type 1 where
   pub same : (w : Writing) → numbers (answer w) ≡ outcome w
 
 -- one that answers nothing but that the bytes are written
-abbrev pub only-writes : (bytes : Line → List ℕ) → WritingCall WriteAnswer
+abbrev pub only-writes : (bytes : Line → List ℕ) → WritingCall (Result (Unit {0}) Refusal)
 only-writes bytes = record { bytes = bytes; answer = write_answer; numbers = write_numbers; outcome = write_outcome; same = same_numbers }
 
 module _ {A : Type 0} (C : WritingCall A) where

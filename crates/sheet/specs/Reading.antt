@@ -1,7 +1,7 @@
 -- What a sheet means, for all byte lists of any length: what its bytes say, and then whether its rests keep the budget. Document 01, 'The
 -- line sheet' and 'Why a sheet is turned down'; document 02, W1, W5, W6, W8 and W9.
 -- Assumes nothing.
-use Rattle.std.specs.Prelude.{Bool, true, false, cond, List, ℕ, zero, suc, ltb, eqb, length, set, replicate}
+use Rattle.std.specs.Prelude.{Bool, true, false, cond, List, ℕ, zero, suc, ltb, eqb, length, set, replicate, Result, Ok, Err}
 use Rattle.sizes.specs.Sizes.{words_of}
 use Rattle.silence.specs.Map.{joined}
 use Rattle.gaps.specs.declared.Gap.TheVariants.{Parts}
@@ -10,7 +10,7 @@ use Rattle.refusals.specs.declared.Refusal.{Refusal}
 use Rattle.refusals.specs.declared.Refusal.TheVariants.{SheetTooLong, SheetEnds, BytesAfterEnd, RestsOverBudget}
 use Rattle.rows.specs.declared.Header.{Header}
 use Rattle.rows.specs.declared.Command.{Command}
-use Rattle.rows.specs.declared.Command.TheVariants.{End, Refused, Head, Describe, Rest, High, Silence}
+use Rattle.rows.specs.declared.Command.TheVariants.{End, Head, Describe, Rest, High, Silence}
 use Rattle.rows.specs.declared.Decoded.{Decoded}
 use Rattle.addresses.specs.Addresses.{addressed}
 use Rattle.places.specs.Places.{tone_at, rest_at, high_at}
@@ -41,7 +41,6 @@ with_entry l i e = record { size = l.size; gap = l.gap; budget = l.budget; entri
 -- its high noise.
 abbrev pub effect : Command → List ℕ → (at : ℕ) → Line → Line
 effect End s at l = l
-effect (Refused r) s at l = l
 effect (Head h) s at l = bare_line h
 effect (Describe i) s at l = with_entry l i (described (tone_at s at) (none_added (tone_at s at)))
 effect (Rest i) s at l = with_entry l i (with_rest (rest_at s at) (entry_of l i))
@@ -63,7 +62,6 @@ nothing = record { line = empty_line; rested = λ i. false; widened = λ i. fals
 abbrev pub rested_after : Command → (ℕ → Bool) → (i : ℕ) → Bool
 rested_after (Rest j) rested i = cond (eqb i j) true (rested i)
 rested_after End rested i = rested i
-rested_after (Refused r) rested i = rested i
 rested_after (Head h) rested i = rested i
 rested_after (Describe j) rested i = rested i
 rested_after (High j) rested i = rested i
@@ -72,7 +70,6 @@ rested_after (Silence word map) rested i = rested i
 abbrev pub widened_after : Command → (ℕ → Bool) → (i : ℕ) → Bool
 widened_after (High j) widened i = cond (eqb i j) true (widened i)
 widened_after End widened i = widened i
-widened_after (Refused r) widened i = widened i
 widened_after (Head h) widened i = widened i
 widened_after (Describe j) widened i = widened i
 widened_after (Rest j) widened i = widened i
@@ -89,7 +86,6 @@ stage_after (Rest i) stage = stage
 stage_after (High i) stage = stage
 stage_after (Silence word map) stage = stage
 stage_after End stage = stage
-stage_after (Refused r) stage = stage
 
 -- After a command the reading ends, or goes on at a place, with what it remembers.
 pub data Next : Type 0 where
@@ -99,7 +95,6 @@ pub data Next : Type 0 where
 -- '07 as the last byte'; refusal 7: 'Bytes follow the end command.'
 abbrev pub after_command : Command → (next : ℕ) → List ℕ → (at stage : ℕ) → SoFar → Next
 after_command End next s at stage x = stop (cond (ltb next (length s)) (refused (BytesAfterEnd next)) (accepted x.line))
-after_command (Refused r) next s at stage x = stop (refused r)
 after_command (Head h) next s at stage x = go next (stage_after (Head h) stage) (so_far_after (Head h) s at x)
 after_command (Describe i) next s at stage x = go next (stage_after (Describe i) stage) (so_far_after (Describe i) s at x)
 after_command (Rest i) next s at stage x = go next (stage_after (Rest i) stage) (so_far_after (Rest i) s at x)
@@ -111,11 +106,12 @@ abbrev pub known_of : SoFar → (i : ℕ) → Known
 known_of x i = record { entry = entry_of x.line i; rested = x.rested i; widened = x.widened i }
 
 -- the command at a place, decoded with the header so far and what is known of the tone that it addresses
-abbrev pub command_in : Format → SoFar → List ℕ → (at stage : ℕ) → Decoded
+abbrev pub command_in : Format → SoFar → List ℕ → (at stage : ℕ) → Result Decoded Refusal
 command_in F x s at stage = decoded F (header_of x.line) (known_of x (addressed s at)) s at stage
 
-abbrev pub after_decoded : Decoded → List ℕ → (at stage : ℕ) → SoFar → Next
-after_decoded d s at stage x = after_command d.command d.next s at stage x
+abbrev pub after_decoded : Result Decoded Refusal → List ℕ → (at stage : ℕ) → SoFar → Next
+after_decoded (Ok d) s at stage x = after_command d.command d.next s at stage x
+after_decoded (Err r) s at stage x = stop (refused r)
 
 abbrev pub read_on : Next → ((at stage : ℕ) → SoFar → Meaning) → Meaning
 read_on (stop m) on = m

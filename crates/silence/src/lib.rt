@@ -37,7 +37,7 @@ pub fn names_beyond(size: u16, word: u8, map: u32) -> bool
 fn tones_in(map: u32) -> u32
     ensures { result ≡ count word_tones (λ k. eqb (bit map k) 1) }
 {
-    u32::count_ones(map)
+    map.count_ones()
 }
 
 // How many tones the maps silence: the ones of each map.
@@ -45,10 +45,8 @@ pub fn silenced_count(maps: &[u32; WORDS]) -> u32
     ensures { result ≡ count most_tones (silenced maps.now) }
 {
     let mut n: u32 = 0;
-    let mut word: usize = 0;
-    while word < WORDS {
-        n += tones_in(maps[word]);
-        word += 1;
+    for map in maps {
+        n += tones_in(*map);
     }
     n
 }

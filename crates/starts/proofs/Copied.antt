@@ -7,21 +7,21 @@ use Prim.Native.Nat.{ℕ, suc, ◌+◌, ◌*◌, ◌^◌, ◌≤◌, ◌<◌}
 use native.Mathlib.Nat.{le_of_lt}
 use native.Mathlib.Numerals.{add-one}
 use native.Mathlib.Omega.{arith}
-use lib.ListN.{length, get_or, set, replicate}
+use lib.ListN.{length, set, replicate}
 use Rattle.sizes.specs.Sizes.{most_tones}
 use Rattle.lists.proofs.Stores.{all_same, Filled, filled_none, filled_more}
 use Rattle.steps.specs.Tones.{Table, ◌!◌, no_bits, sum}
 use Rattle.steps.proofs.Sums.{sum-at-most, sum-eq, sum-zero}
-use Rattle.line.specs.Arrays.{Arrays, arrays, rest_at, power_in, RestsInRange, PowersInRange}
+use Rattle.line.specs.Arrays.{Arrays, rest_at, power_at, RestsInRange, PowersInRange}
 use Rattle.line.proofs.Powers.{power-high}
 use Rattle.line.proofs.Arrays.{no-bits-stand, no-bits-power}
 use Rattle.running.specs.declared.Totals.{Totals}
 use Rattle.starts.specs.Starts.{StartsAtNone, StartsAt}
 
-module _ (costs doublings rests : List ℕ) (t : Table) where
+module _ (A : Arrays) (t : Table) where
   -- the power of tone j at its bits in a table
   abbrev pub start_power : (j : ℕ) → ℕ
-  start_power j = power_in (get_or costs j 0) (get_or doublings j 0) (get_or rests j 0) (t ! j)
+  start_power j = power_at A j (t ! j)
 
   -- the first i tones are copied, with these totals
   pub record Copied (bits : List ℕ) (s : Totals) (i : ℕ) : Type 0 where
@@ -32,11 +32,11 @@ module _ (costs doublings rests : List ℕ) (t : Table) where
     pub small : s.bits ≤ 255 * i
 
 -- with the rest of one tone more the sum stays below 2^64
-pub rests-room : {count : ℕ} {rests : List ℕ} → RestsInRange count rests → (i : ℕ) → i < count → count ≤ most_tones
-    → sum i (λ j. get_or rests j 0) + get_or rests i 0 < 2 ^ 64
+pub rests-room : {count : ℕ} {A : Arrays} → RestsInRange count A → (i : ℕ) → i < count → count ≤ most_tones
+    → sum i (rest_at A) + rest_at A i < 2 ^ 64
 unfolding sum
-rests-room {rests = rests} R i il few =
-    omega (arith, sum-at-most (suc i) (2 ^ 24) (λ j. get_or rests j 0) (λ j jl. omega (arith, R.rest_high j (omega arith))))
+rests-room {A = A} R i il few =
+    omega (arith, sum-at-most (suc i) (2 ^ 24) (rest_at A) (λ j jl. omega (arith, R.rest_high j (omega arith))))
 
 -- no bits, with the rests for their power, stand for the table of no bits
 pub none-starts : {count power : ℕ} {A : Arrays} → power ≡ sum count (rest_at A)
@@ -46,25 +46,25 @@ none-starts e T D R = record {
   sums = record { same_bits = sym (sum-zero T.count (◌!◌ (no_bits T)) (λ i il. all_same T.count i 0)); same_power = e ∙ sym (no-bits-power D) };
 }
 
-module _ {costs doublings rests : List ℕ} {t : Table} where
+module _ {A : Arrays} {t : Table} where
   -- no tone is copied yet
-  pub none-copied : Copied costs doublings rests t (replicate most_tones 0) (record { bits = 0; power = 0 }) 0
+  pub none-copied : Copied A t (replicate most_tones 0) (record { bits = 0; power = 0 }) 0
   unfolding sum
   none-copied = record { inside = omega arith; copied = filled_none most_tones (◌!◌ t); sum_bits = refl; sum_power = refl; small = omega arith }
 
   -- with one tone more the sum stays below 2^64
-  pub power-room : PowersInRange (length t) costs doublings rests t → (i : ℕ) → i < length t → length t ≤ most_tones
-      → sum i (start_power costs doublings rests t) + start_power costs doublings rests t i < 2 ^ 64
+  pub power-room : PowersInRange (length t) A t → (i : ℕ) → i < length t → length t ≤ most_tones
+      → sum i (start_power A t) + start_power A t i < 2 ^ 64
   unfolding sum
-  power-room R i il few = omega (arith, sum-at-most (suc i) (2 ^ 39) (start_power costs doublings rests t) (λ j jl. high j (omega arith)))
+  power-room R i il few = omega (arith, sum-at-most (suc i) (2 ^ 39) (start_power A t) (λ j jl. high j (omega arith)))
     where
-      high : (j : ℕ) → j < length t → start_power costs doublings rests t j ≤ 2 ^ 39
+      high : (j : ℕ) → j < length t → start_power A t j ≤ 2 ^ 39
       high j jl = le_of_lt (power-high _ _ _ (t ! j) (R.cost_high j jl) (R.shift_high j jl) (R.rest_high j jl))
 
-  module _ {bits : List ℕ} {s : Totals} {i : ℕ} (C : Copied costs doublings rests t bits s i) where
+  module _ {bits : List ℕ} {s : Totals} {i : ℕ} (C : Copied A t bits s i) where
     -- one tone more is copied
-    pub copied_more : (b p : ℕ) → i < length t → i < most_tones → b ≡ t ! i → b ≤ 255 → p ≡ start_power costs doublings rests t i
-        → Copied costs doublings rests t (set bits i b) (record { bits = s.bits + b; power = s.power + p }) (i + 1)
+    pub copied_more : (b p : ℕ) → i < length t → i < most_tones → b ≡ t ! i → b ≤ 255 → p ≡ start_power A t i
+        → Copied A t (set bits i b) (record { bits = s.bits + b; power = s.power + p }) (i + 1)
     unfolding sum
     copied_more b p il low e small q = record {
       inside = omega arith;
@@ -75,8 +75,8 @@ module _ {costs doublings rests : List ℕ} {t : Table} where
     }
 
     -- all tones are copied
-    pub copied-stands : i ≡ length t → (limits : List ℕ) → StartsAt (arrays limits costs doublings rests) t (record { bits = bits; totals = s })
-    copied-stands e limits T D R K = record {
+    pub copied-stands : i ≡ length t → StartsAt A t (record { bits = bits; totals = s })
+    copied-stands e T D R K = record {
       table = record { describes = D; rising = R; within = K; same_bits = λ j jl. sym (C.copied.front j (omega arith)) };
       sums = record {
         same_bits = rw (e ∙ K.sized) at C.sum_bits;

@@ -1,28 +1,20 @@
 -- Starting tables, and the running table that a run starts from. Document 01, 'A re-fit's starting table is one byte of bits a tone', and
 -- refusal 10.
 -- Assumes nothing.
-use Rattle.std.specs.Prelude.{List, ◌≡◌, ℕ, ◌<◌, ltb, length, get_or}
-use Rattle.std.proofs.Math.Option.{Option, none, some}
+use Rattle.std.specs.Prelude.{List, ◌≡◌, ℕ, ◌<◌, ltb, length, Option}
 use Rattle.lists.specs.First.{first}
 use Rattle.steps.specs.Tones.{Tones, Rising, Table, ◌!◌, no_bits, KeepsLimits}
-use Rattle.line.specs.Arrays.{Arrays, Describes}
+use Rattle.line.specs.Arrays.{Arrays, limit_at, Describes}
 use Rattle.running.specs.declared.Running.{Running}
 use Rattle.running.specs.Running.{Stands}
-use Rattle.starts.specs.declared.Above.{Above}
-use Rattle.starts.specs.declared.Above.TheVariants.{Nowhere, Tone}
 
 -- 'the first such tone': of the tones below n, the first with more bits than its limit
 unfoldable pub first_above : Tones → Table → (n : ℕ) → Option ℕ
 first_above T t n = first (λ i. ltb (T.limit i) (t ! i)) n
 
--- an array has the limits of the first n tones
-pub record SameLimits (T : Tones) (limits : List ℕ) (n : ℕ) : Type 0 where
-  pub same_limit : (i : ℕ) → i < n → T.limit i ≡ get_or limits i 0
-
--- what the search for it answers, as an option
-abbrev pub above_at : Above → Option ℕ
-above_at Nowhere = none
-above_at (Tone i) = some i
+-- the arrays have the limits of the first n tones
+pub record SameLimits (T : Tones) (A : Arrays) (n : ℕ) : Type 0 where
+  pub same_limit : (i : ℕ) → i < n → T.limit i ≡ limit_at A i
 
 -- A running table stands for the table of no bits, whatever rising tones the arrays describe.
 abbrev pub StartsAtNone : (count : ℕ) → Arrays → Running → Type 0

@@ -4,7 +4,7 @@ use mathlib.Core.List.{List, ◌++◌}
 use mathlib.Core.Path.{◌≡◌, ap, ◌∙◌}
 use Prim.Native.Nat.{ℕ, ◌*◌, ◌≤◌, ◌<◌}
 use native.Mathlib.Omega.{arith}
-use lib.ListN.{length, get_or, drop}
+use lib.ListN.{length, drop}
 use lib.Seq.{sets}
 use Rattle.lists.specs.Joined.{joined_below}
 use Rattle.lists.proofs.Joined.{joined_same, length-even}
@@ -12,7 +12,7 @@ use Rattle.lists.proofs.Stores.{from_start}
 use Rattle.sizes.specs.Sizes.{bytes_a_tone}
 use Rattle.bigendian.proofs.Numbers.{length-bytes}
 use Rattle.steps.specs.Tones.{Tones, Table, ◌!◌}
-use Rattle.line.specs.Arrays.{arrays, power_in, StandsFor}
+use Rattle.line.specs.Arrays.{Arrays, power_at, StandsFor}
 use Rattle.tables.specs.Tables.{tone_entry, table_bytes}
 
 -- so many bytes a tone
@@ -23,14 +23,13 @@ pub length-entries : (T : Tones) (t : Table) (n : ℕ) → length (joined_below 
 length-entries T t = length-even (tone_entry T t) bytes_a_tone (length-entry T t)
 
 -- tones by their costs, doublings and rests alone
-abbrev pub plain : (costs doublings rests : List ℕ) → Tones
-plain costs doublings rests = record { count = 0; limit = λ i. 0; power = λ i b. power_in (get_or costs i 0) (get_or doublings i 0) (get_or rests i 0) b }
+abbrev pub plain : Arrays → Tones
+plain A = record { count = 0; limit = λ i. 0; power = power_at A }
 
--- they give the bytes of whatever table the arrays and the bits stand for
-pub plain-table-bytes : {count : ℕ} {limits costs doublings rests bits : List ℕ} {T : Tones} {t : Table}
-    → StandsFor count (arrays limits costs doublings rests) bits T t → joined_below (tone_entry (plain costs doublings rests) bits) T.count ≡ table_bytes T t
-plain-table-bytes {count} {costs = costs} {doublings} {rests} {bits} {T = T} {t} S =
-    joined_same (tone_entry (plain costs doublings rests) bits) (tone_entry T t) T.count (λ i l.
+-- they give the bytes of whatever table the array and the bits stand for
+pub plain-table-bytes : {count : ℕ} {A : Arrays} {bits : List ℕ} {T : Tones} {t : Table}
+    → StandsFor count A bits T t → joined_below (tone_entry (plain A) bits) T.count ≡ table_bytes T t
+plain-table-bytes {count} {A} {bits} {T} {t} S = joined_same (tone_entry (plain A) bits) (tone_entry T t) T.count (λ i l.
     let il : i < count = omega (arith, S.describes.same_count) in
     rw (S.describes.same_power i (t ! i) il (S.within.under i l), S.same_bits i il))
 

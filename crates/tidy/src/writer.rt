@@ -9,9 +9,8 @@ ghost use Rattle.tidyform.specs.Tidy.{word_bytes, map_bytes, gap_bytes, head_byt
 
 use gaps::Gap;
 use rows::Header;
-use sizes::{
-    BUDGET_COMMAND, GAP_COMMAND, SILENCE_COMMAND, SIZE_COMMAND, TENTHS_COMMAND, TONES, WORDS,
-};
+use sheet::Index;
+use sizes::{BUDGET_COMMAND, GAP_COMMAND, SILENCE_COMMAND, SIZE_COMMAND, TENTHS_COMMAND, WORDS};
 
 // The silence command of a word, from a place on, if its map is not zero. Answers the place after it.
 fn put_word(out: &mut [u8], at: usize, word: u8, map: u32) -> usize
@@ -35,10 +34,8 @@ fn put_words(out: &mut [u8], at: usize, maps: &[u32; WORDS]) -> usize
     ensures bytes { out.new ≡ sets out.old at (map_bytes most_words maps.now) }
 {
     let mut place = at;
-    let mut word: usize = 0;
-    while word < WORDS {
-        place = put_word(out, place, word as u8, maps[word]);
-        word += 1;
+    for (word, map) in maps.iter().enumerate() {
+        place = put_word(out, place, word as u8, *map);
     }
     place
 }
@@ -71,29 +68,20 @@ fn put_header(out: &mut [u8], header: Header) -> usize
 {
     out[0] = 1;
     bigendian::put_number(out, 1, 2, header.size as u64);
-    let gap = header.gap;
-    let at = put_gap(out, SIZE_COMMAND, gap);
+    let at = put_gap(out, SIZE_COMMAND, header.gap);
     out[at] = 3;
     bigendian::put_number(out, at + 1, 8, header.budget);
     at + BUDGET_COMMAND
 }
 
 // The tidy form of the line that an index of the sheet stands for, from the buffer's start on.
-pub(crate) fn put_line(
-    out: &mut [u8],
-    s: &[u8],
-    header: Header,
-    places: &[u16; TONES],
-    rests: &[u16; TONES],
-    highs: &[u16; TONES],
-    maps: &[u32; WORDS],
-)
-    requires indexed { Indexed s.now header places.now rests.now highs.now maps.now }
+pub(crate) fn put_line(out: &mut [u8], s: &[u8], header: Header, index: &Index)
+    requires indexed { Indexed s.now header index.now }
     requires form_in_bounds { (l : Line) → said s.now ≡ accepted l → length (tidy l) ≤ length out.old }
     ensures { (l : Line) → said s.now ≡ accepted l → out.new ≡ sets out.old 0 (tidy l) }
 {
     let header_end = put_header(out, header);
-    let tones_end = tidytones::put_tones(s, header.size, places, rests, highs, out, header_end);
-    let words_end = put_words(out, tones_end, maps);
+    let tones_end = tidytones::put_tones(s, header.size, &index.tones, out, header_end);
+    let words_end = put_words(out, tones_end, &index.maps);
     out[words_end] = 7;
 }

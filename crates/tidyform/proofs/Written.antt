@@ -4,6 +4,7 @@ use mathlib.Core.Path.{◌≡◌, refl, sym, ap, ◌∙◌}
 use mathlib.Core.Bool.{false}
 use mathlib.Core.List.{List, [], ◌∷◌, ◌++◌, append-nil, append_assoc}
 use mathlib.Core.Option.{none, some}
+use Rattle.std.specs.Prelude.{Ok}
 use Prim.Native.Nat.{ℕ, zero, suc, ◌+◌, ◌^◌, ◌≤◌, ◌<◌}
 use native.Mathlib.Omega.{arith}
 use borrow.Author.Tests.{le-ltb, lt-leb}
@@ -97,10 +98,10 @@ operands-stand s q at (value {o = o} {os = os} {v = v} {vs = vs} h p g) e =
 
 -- and the command then does what their values do
 operands-done : {seen : Seen} {os : List Operand} {vs : List ℕ} (s : List ℕ) (at : ℕ) (does : List ℕ → Command) → Good seen os vs → Stand s at os vs
-    → operands_from seen s at os does ≡ does (seen.before ++ vs)
-operands-done {seen} s at does no_value st = ap does (sym (append-nil seen.before))
+    → operands_from seen s at os does ≡ Ok (does (seen.before ++ vs))
+operands-done {seen} s at does no_value st = ap (λ (before : List ℕ). Ok (does before)) (sym (append-nil seen.before))
 operands-done {seen} s at does (value {o = o} {v = v} {vs = vs} h p g) st =
-    rw (st.0, p at) (operands-done s (at + o.width) does g st.1 ∙ ap does (append_assoc seen.before (v ∷ []) vs))
+    rw (st.0, p at) (operands-done s (at + o.width) does g st.1 ∙ ap (λ (before : List ℕ). Ok (does before)) (append_assoc seen.before (v ∷ []) vs))
 
 -- Commands.
 
@@ -133,7 +134,7 @@ module _ (x : SoFar) (stage : ℕ) (r : Row) (vs q : List ℕ) (found : with_cod
     values-stand : Stand s (at + 1) r.operands vs
     values-stand = operands-stand s q (at + 1) good operands-there
 
-    command-stands : at ≤ length s → command_in today x s at stage ≡ record { command = r.does (header_of x.line) vs; next = next r at }
+    command-stands : at ≤ length s → command_in today x s at stage ≡ Ok (record { command = r.does (header_of x.line) vs; next = next r at })
     unfolding decoded row_at
     command-stands h =
         let there : leb (length s) at ≡ false = lt-leb (length s) at (omega (arith, length-sheet h)) in

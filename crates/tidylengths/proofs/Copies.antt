@@ -8,9 +8,9 @@ use native.Mathlib.Nat.{add-zero, add_assoc}
 use native.Mathlib.Omega.{arith}
 use borrow.Author.Tests.{eq-eqb}
 use lib.Dec.{eqb}
-use lib.ListN.{length, get_or}
+use lib.ListN.{get_or}
 use Rattle.lists.specs.Joined.{joined_below}
-use Rattle.lists.proofs.Joined.{joined_same, length-even}
+use Rattle.lists.proofs.Joined.{joined_same}
 use Rattle.bigendian.specs.Number.{number, bytes}
 use Rattle.bigendian.proofs.Numbers.{number-there}
 use Rattle.line.specs.Tone.{noise_of, KindInRange}
@@ -20,18 +20,16 @@ use Rattle.rows.specs.Rows.{Operand, Row, width, rest_operand, rest, high_operan
 use Rattle.rows.specs.Codes.{ToneCode, RestCode, HighCode, tone_operands, command_bytes}
 use Rattle.rows.proofs.Judging.{tone-row, rest-row, high-row}
 use Rattle.places.specs.Places.{tone_at, rest_at, rest_from, high_at, high_from, entry_at}
-use Rattle.sheet.specs.Index.{ToneStands, RestStands, HighStands, Indexes}
+use Rattle.sheet.specs.declared.Index.{Index}
+use Rattle.sheet.specs.Index.{ToneStands, RestStands, HighStands, noted_of, Indexes}
 use Rattle.sheet.proofs.Sound.{Bytes}
 use Rattle.tidyform.specs.Tidy.{operand_bytes, written, tidy_width, kind_row, kind_values, rest_bytes, high_bytes, entry_bytes, tone_bytes}
 use Rattle.tidyform.proofs.Parts.{kind_short, row_is}
 use Rattle.tidyform.proofs.Written.{Stand}
 use Rattle.tidyform.proofs.Tones.{tone-read}
-use Rattle.tidylengths.specs.Copies.{byte_from, part, Inside, carried_bytes, command_copy, rest_copy, high_copy, entry_copy, copies}
+use Rattle.tidylengths.specs.Copies.{part, Inside, carried_bytes, command_copy, rest_copy, high_copy, entry_copy, copies, AllInside}
 
 -- ---- parts of a sheet
-
-pub length_part : (s : List ℕ) (at w : ℕ) → length (part s at w) ≡ w
-length_part s at w = omega (arith, length-even (byte_from s at) 1 (λ k. refl) w)
 
 -- a part and the part after it
 parts : (s : List ℕ) (at w to v n : ℕ) → at + w ≡ to → w + v ≡ n → part s at w ++ part s to v ≡ part s at n
@@ -68,13 +66,13 @@ rest-bytes code h = ap (λ (r : Row). 1 + width r.operands) (sym (rest-row code 
 high-bytes : (code : ℕ) → HighCode code → command_bytes code ≡ 1 + (number_width code + 2)
 high-bytes code h = ap (λ (r : Row). 1 + width r.operands) (sym (high-row code h))
 
-pub tone-inside : (s : List ℕ) (i place : ℕ) → (0 < place → ToneStands s i place) → Inside s place
+tone-inside : (s : List ℕ) (i place : ℕ) → (0 < place → ToneStands s i place) → Inside s place
 tone-inside s i place h = record { numbered = λ k. omega (arith, tone-bytes (get_or s place 0) (h k).code); whole = λ k. (h k).inside }
 
-pub rest-inside : (s : List ℕ) (i place : ℕ) → (0 < place → RestStands s i place) → Inside s place
+rest-inside : (s : List ℕ) (i place : ℕ) → (0 < place → RestStands s i place) → Inside s place
 rest-inside s i place h = record { numbered = λ k. omega (arith, rest-bytes (get_or s place 0) (h k).code); whole = λ k. (h k).inside }
 
-pub high-inside : (s : List ℕ) (i place : ℕ) → (0 < place → HighStands s i place) → Inside s place
+high-inside : (s : List ℕ) (i place : ℕ) → (0 < place → HighStands s i place) → Inside s place
 high-inside s i place h = record { numbered = λ k. omega (arith, high-bytes (get_or s place 0) (h k).code); whole = λ k. (h k).inside }
 
 module _ (s : List ℕ) (b : Bytes s) where
@@ -141,9 +139,19 @@ module _ (s : List ℕ) (b : Bytes s) where
       all e f g = rw (e, f, g)
 
   -- the tones' commands are those of the line that is indexed
-  pub copies-are : {places rests highs maps : List ℕ} {l : Line} → Indexes s places rests highs maps l → LineInRange l → (n : ℕ) → n ≤ l.size
-      → tone_bytes n l.entries ≡ copies n s places rests highs
-  copies-are {places} {rests} {highs} {l = l} x I n h = joined_same _ _ n (λ i k.
-      let R = rw (x.entry i) at (I.entries i (omega arith)) in
-      rw (x.entry i)
-      (entry-copy i (get_or places i 0) (get_or rests i 0) (get_or highs i 0) (gap_of l) (x.stands i) (x.rest_stands i) (x.high_stands i) (x.no_rest i) (x.no_high i) R))
+  pub copies-are : {x : Index} {l : Line} → Indexes s x l → LineInRange l → (n : ℕ) → n ≤ l.size → tone_bytes n l.entries ≡ copies n s x.tones
+  copies-are {x} {l} is I n h = joined_same _ _ n (λ i k.
+      let noted = noted_of x i in
+      let R = rw (is.entry i) at (I.entries i (omega arith)) in
+      rw (is.entry i)
+      (entry-copy i noted.own noted.rest noted.high (gap_of l) (is.stands i) (is.rest_stands i) (is.high_stands i) (is.no_rest i) (is.no_high i) R))
+
+-- where the commands of a tone that are noted stand, they are all there
+pub noted-inside : {s : List ℕ} {x : Index} {l : Line} → Indexes s x l → (i : ℕ) → AllInside s (noted_of x i)
+noted-inside {s} {x} is i =
+    let noted = noted_of x i in
+    record {
+      own = tone-inside s i noted.own (is.stands i);
+      rest = rest-inside s i noted.rest (is.rest_stands i);
+      high = high-inside s i noted.high (is.high_stands i);
+    }

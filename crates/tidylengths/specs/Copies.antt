@@ -6,7 +6,8 @@ use Rattle.lists.specs.Joined.{joined_below}
 use Rattle.bigendian.specs.Number.{bytes}
 use Rattle.addresses.specs.Addresses.{code_of, number_width, short_of, carried_at}
 use Rattle.line.specs.Tone.{noise_of}
-use Rattle.places.specs.Places.{tone_at, rest_from, high_from}
+use Rattle.places.specs.declared.Noted.{Noted}
+use Rattle.places.specs.Places.{tone_at, rest_from, high_from, nowhere}
 use Rattle.rows.specs.Codes.{command_bytes}
 use Rattle.tidyform.specs.Tidy.{tidy_width}
 
@@ -48,8 +49,24 @@ high_copy s i place high = cond (eqb (high_from s (tone_at s place) high) (noise
 abbrev pub entry_copy : List ℕ → (i place rest high : ℕ) → List ℕ
 entry_copy s i place rest high = tone_copy s i place ++ (rest_copy s i rest ++ high_copy s i place high)
 
-abbrev pub copy_at : (s places rests highs : List ℕ) → (i : ℕ) → List ℕ
-copy_at s places rests highs i = entry_copy s i (get_or places i 0) (get_or rests i 0) (get_or highs i 0)
+abbrev pub copy_at : List ℕ → (noted : List Noted) → (i : ℕ) → List ℕ
+copy_at s noted i = let n = get_or noted i nowhere in entry_copy s i n.own n.rest n.high
 
-abbrev pub copies : (count : ℕ) → (s places rests highs : List ℕ) → List ℕ
-copies count s places rests highs = joined_below (copy_at s places rests highs) count
+abbrev pub copies : (count : ℕ) → List ℕ → (noted : List Noted) → List ℕ
+copies count s noted = joined_below (copy_at s noted) count
+
+-- ---- as the code goes
+
+-- the commands of a tone that stand at its places are all there
+pub record AllInside (s : List ℕ) (n : Noted) : Type 0 where
+  pub own : Inside s n.own
+  pub rest : Inside s n.rest
+  pub high : Inside s n.high
+
+-- where the commands stand that are written: a rest of 0 goes, and so does a high noise that is the tone's own
+abbrev pub kept : List ℕ → Noted → Noted
+kept s n = record {
+  own = n.own;
+  rest = cond (eqb (rest_from s n.rest) 0) 0 n.rest;
+  high = cond (eqb (high_from s (tone_at s n.own) n.high) (noise_of (tone_at s n.own).kind)) 0 n.high;
+}

@@ -16,8 +16,7 @@ pub extern "C" fn toqhaymi_check(sheet: &[u8], answer: &mut [u8]) -> u64
     if answer.len() < ANSWER_BYTES {
         return answers::without_room(sheet);
     }
-    let checked = loader::check(sheet);
-    answers::put(answers::of_check(checked), answer)
+    answers::reply(loader::check(sheet), answer)
 }
 
 #[unsafe(no_mangle)]
@@ -29,8 +28,7 @@ pub extern "C" fn toqhaymi_load_most(sheet: &[u8], table: &mut [u8], answer: &mu
     if answer.len() < ANSWER_BYTES {
         return answers::without_room(sheet);
     }
-    let loaded = loader::load_most(sheet, table);
-    answers::put(answers::of_load(loaded), answer)
+    answers::reply(loader::load_most(sheet, table), answer)
 }
 
 #[unsafe(no_mangle)]
@@ -47,8 +45,7 @@ pub extern "C" fn toqhaymi_load_target(
     if answer.len() < ANSWER_BYTES {
         return answers::without_room(sheet);
     }
-    let loaded = loader::load_target(sheet, target, table);
-    answers::put(answers::of_load(loaded), answer)
+    answers::reply(loader::load_target(sheet, target, table), answer)
 }
 
 #[unsafe(no_mangle)]
@@ -65,8 +62,7 @@ pub extern "C" fn toqhaymi_refit(
     if answer.len() < ANSWER_BYTES {
         return answers::without_room(sheet);
     }
-    let refitted = loader::refit(sheet, start, table);
-    answers::put(answers::of_refit(refitted), answer)
+    answers::reply(loader::refit(sheet, start, table), answer)
 }
 
 #[unsafe(no_mangle)]
@@ -83,8 +79,7 @@ pub extern "C" fn toqhaymi_refit_step(
     if answer.len() < ANSWER_BYTES {
         return answers::without_room(sheet);
     }
-    let refitted = loader::refit_step(sheet, start, table);
-    answers::put(answers::of_refit(refitted), answer)
+    answers::reply(loader::refit_step(sheet, start, table), answer)
 }
 
 #[unsafe(no_mangle)]
@@ -96,6 +91,5 @@ pub extern "C" fn toqhaymi_tidy(sheet: &[u8], tidy: &mut [u8], answer: &mut [u8]
     if answer.len() < ANSWER_BYTES {
         return answers::without_room(sheet);
     }
-    let tidied = loader::tidy(sheet, tidy);
-    answers::put(answers::of_tidy(tidied), answer)
+    answers::reply(loader::tidy(sheet, tidy), answer)
 }

@@ -2,12 +2,14 @@
 // reports how many moved.'
 #![tactic(auto)]
 
-ghost use Rattle.line.specs.Arrays.{arrays};
+ghost use Rattle.std.specs.Prelude.{length};
 ghost use Rattle.ranks.specs.Ranks.{Ranked};
 ghost use Rattle.running.specs.Running.{Runnable};
 ghost use Rattle.wholeruns.specs.WholeRuns.{RunsBy};
 
+use line::Steps;
 use moves::Rule;
+use ranks::Ranks;
 use running::{Progress, Running, Stepped};
 use sizes::TONES;
 
@@ -26,73 +28,44 @@ pub fn go_on(
     rule: Rule,
     most: u32,
     budget: u64,
-    count: usize,
-    limits: &[u8; TONES],
-    costs: &[u32; TONES],
-    doublings: &[u8; TONES],
-    rests: &[u32; TONES],
-    free: &mut [u64; TONES],
-    held: &mut [u64; TONES],
+    tones: &[Steps],
+    ranks: &mut Ranks,
 ) -> Ended
-    requires runnable { Runnable count (arrays limits.now costs.now doublings.now rests.now) start }
-    requires ranked { Ranked count (arrays limits.now costs.now doublings.now rests.now) start.bits free.old held.old }
-    ensures run { RunsBy count (arrays limits.now costs.now doublings.now rests.now) rule most budget start result }
-    ensures ranks { Ranked count (arrays limits.now costs.now doublings.now rests.now) result.running.bits free.new held.new }
+    requires runnable { Runnable (length tones.now) tones.now start }
+    requires ranked { Ranked (length tones.now) tones.now start.bits ranks.old.free ranks.old.held }
+    ensures run { RunsBy (length tones.now) tones.now rule most budget start result }
+    ensures ranks { Ranked (length tones.now) tones.now result.running.bits ranks.new.free ranks.new.held }
 {
     let mut now = Stepped {
         running: start,
         progress: Progress::Moved,
     };
-    let mut moves: u32 = 0;
-    while moves < most {
-        now = now.running.step(
-            rule, budget, count, limits, costs, doublings, rests, free, held,
-        );
-        let progress = now.progress;
-        match progress {
-            Progress::Moved => {
-                moves += 1;
-            }
-            Progress::Finished => {
-                let running = now.running;
-                return Ended {
-                    running: running,
-                    moves: moves,
-                    progress: progress,
-                };
-            }
+    for moves in 0..most {
+        now = now.running.step(rule, budget, tones, ranks);
+        if let Progress::Finished = now.progress {
+            return Ended {
+                running: now.running,
+                moves,
+                progress: Progress::Finished,
+            };
         }
     }
-    let running = now.running;
     Ended {
-        running: running,
-        moves: moves,
+        running: now.running,
+        moves: most,
         progress: Progress::Moved,
     }
 }
 
 // A run from a running table: it begins with the ranks of that table.
-pub fn run(
-    start: Running,
-    rule: Rule,
-    most: u32,
-    budget: u64,
-    count: usize,
-    limits: &[u8; TONES],
-    costs: &[u32; TONES],
-    doublings: &[u8; TONES],
-    rests: &[u32; TONES],
-) -> Ended
-    requires { Runnable count (arrays limits.now costs.now doublings.now rests.now) start }
-    ensures { RunsBy count (arrays limits.now costs.now doublings.now rests.now) rule most budget start result }
+pub fn run(start: Running, rule: Rule, most: u32, budget: u64, tones: &[Steps]) -> Ended
+    requires { Runnable (length tones.now) tones.now start }
+    ensures { RunsBy (length tones.now) tones.now rule most budget start result }
 {
-    let bits = start.bits;
-    let mut free = [u64::MAX; TONES];
-    let mut held = [u64::MAX; TONES];
-    ranks::fill_ranks(
-        count, limits, costs, doublings, rests, &bits, &mut free, &mut held,
-    );
-    go_on(
-        start, rule, most, budget, count, limits, costs, doublings, rests, &mut free, &mut held,
-    )
+    let mut ranks = Ranks {
+        free: [u64::MAX; TONES],
+        held: [u64::MAX; TONES],
+    };
+    ranks.fill(tones, &start.bits);
+    go_on(start, rule, most, budget, tones, &mut ranks)
 }

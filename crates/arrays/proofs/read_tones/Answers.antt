@@ -1,19 +1,16 @@
 -- `arrays::read_tones` meets its contract. Assumes nothing.
-use Rattle.line.specs.Arrays.{arrays}
-use Rattle.sheet.proofs.Uses.{read-line, refused-is, at_low}
+use Rattle.std.proofs.lemmas.Result.{err_from_is_err_and}
+use Rattle.sheet.proofs.Uses.{read-line, refused-is}
 use Rattle.arrays.proofs.Uses.{tones-held, tones-refused}
 use Rattle.arrays.proofs.read_tones.Goals as goal
 
 pub fill_arrays-requires : goal.fill_arrays-requires
-fill_arrays-requires c = record {
-  indexed_low = at_low (read-line c.read_sheet-read.ensures c.in-Accepted.is).index;
-  blank = c.requires;
-}
+fill_arrays-requires c = record { indexed = (read-line c.in_ok-header.ensures).index; blank = c.requires }
 
-pub returns-in-Refused : goal.returns-in-Refused
-returns-in-Refused c =
-    let a = c.args in
-    tones-refused (arrays a.limits.now a.costs.now a.doublings.now a.rests.now) (refused-is c.read_sheet-read.ensures c.in-Refused.is)
+pub returns-in_err-header : goal.returns-in_err-header
+returns-in_err-header c =
+    let p = err_from_is_err_and c.from_residual.result c.from_residual.ensures.1 in
+    rw (p.1, p.2) (tones-refused c.args.tones.now (refused-is c.in_err-header.ensures))
 
-pub returns-in-Accepted : goal.returns-in-Accepted
-returns-in-Accepted c = tones-held _ _ (read-line c.read_sheet-read.ensures c.in-Accepted.is) c.fill_arrays.ensures
+pub returns : goal.returns
+returns c = tones-held _ _ (read-line c.in_ok-header.ensures) c.fill_arrays.ensures

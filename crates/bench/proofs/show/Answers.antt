@@ -1,7 +1,6 @@
 -- `bench::show` meets its contract. Assumes nothing.
-use mathlib.Core.Path.{sym, ◌∙◌}
 use Rattle.bench.proofs.Sizes.{counted-size}
 use Rattle.bench.proofs.show.Goals as goal
 
 pub show_loading-requires : goal.show_loading-requires
-show_loading-requires c = counted-size _ (λ i. (c.type_inv.sheet i).fits) (sym c.check-checked.ensures.answer ∙ c.in-Counts.is)
+show_loading-requires c = counted-size _ (λ i. (c.type_inv.sheet i).fits) c.in-Ok.ensures.answer

@@ -1,13 +1,10 @@
 -- `budgetlist::first_fault` meets its contract. Between the turns no entry below k is wrong, and `last` is the budget before k. Assumes nothing.
 use mathlib.Core.Bool.{false}
 use mathlib.Core.Path.{◌≡◌}
-use Prim.Native.Nat.{ℕ, ◌-◌, ◌≤◌, ◌<◌}
+use Prim.Native.Nat.{ℕ, ◌<◌}
 use Rattle.budgetlist.specs.Budgets.{is_fault}
 use Rattle.budgetlist.proofs.Laws.{last_of}
 use Rattle.budgetlist.proofs.first_fault.Given as goal
 
 abbrev pub invariant-loop-k : goal.invariant-loop-k
-invariant-loop-k l = (l.k ≤ l.count) × (l.last ≡ last_of l.list l.k) × ((j : ℕ) → j < l.k → is_fault l.list j ≡ false)
-
-abbrev pub decreases-loop-k : goal.decreases-loop-k
-decreases-loop-k l = l.count - l.k
+invariant-loop-k l = (l.last ≡ last_of l.list l.k) × ((j : ℕ) → j < l.k → is_fault l.list j ≡ false)

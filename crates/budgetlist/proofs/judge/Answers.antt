@@ -1,12 +1,12 @@
 -- `budgetlist::judge` meets its contract. Assumes nothing.
 use mathlib.Core.List.{List}
-use mathlib.Core.Option.{none, some}
-use mathlib.Core.Path.{◌≡◌, sym, ap, ◌∙◌}
+use mathlib.Core.Path.{◌≡◌, sym}
 use Prim.Native.Nat.{ℕ, ◌%◌, ◌≤◌}
 use native.Mathlib.Omega.{arith}
 use lib.ListN.{length}
+use Rattle.std.specs.Prelude.{Some, None}
 use Rattle.sizes.specs.Sizes.{most_budgets, budget_bytes}
-use Rattle.budgetlist.specs.Budgets.{budget_count, fault_at}
+use Rattle.budgetlist.specs.Budgets.{budget_count}
 use Rattle.budgetlist.proofs.Laws.{RightLength, wrong-length, by_entries, found_inside}
 use Rattle.budgetlist.proofs.judge.Goals.{then-list-lt1-via-then-list-lt1, then-list-lt1-via-else-list-lt1+then-list-ne0, then-list-lt1-via-else-list-lt1+else-list-ne0+then-count-gt-BUDGETS}
 use Rattle.budgetlist.proofs.judge.Goals as goal
@@ -25,22 +25,14 @@ returns-then-list-lt1 c =
     ]))
 
 pub overflow_cast-result : goal.overflow_cast-result
-overflow_cast-result c =
-    let a = c in
-    let list = a.args.list.now in
-    let inside = found_inside list (sym a.first_fault-fault.ensures ∙ ap fault_at c.in-Entry.is) in
-    omega (arith, inside)
+overflow_cast-result c = omega (arith, found_inside c.args.list.now (sym c.in-Some.ensures))
 
-pub returns-in-Entry : goal.returns-in-Entry
-returns-in-Entry c =
-    let a = c in
-    let list = a.args.list.now in
-    let h = right list (omega arith) a.if-list-ne0.false a.if-count-gt-BUDGETS.false in
-    rw (by_entries list h (some c.in-Entry.k) (sym a.first_fault-fault.ensures ∙ ap fault_at c.in-Entry.is))
+pub returns-in-Some : goal.returns-in-Some
+returns-in-Some c =
+    let list = c.args.list.now in
+    rw (by_entries list (right list c.if-list-lt1.false c.if-list-ne0.false c.if-count-gt-BUDGETS.false) (Some c.in-Some.k) (sym c.in-Some.ensures))
 
-pub returns-in-Nowhere : goal.returns-in-Nowhere
-returns-in-Nowhere c =
-    let a = c in
-    let list = a.args.list.now in
-    let h = right list (omega arith) a.if-list-ne0.false a.if-count-gt-BUDGETS.false in
-    rw (by_entries list h none (sym a.first_fault-fault.ensures ∙ ap fault_at c.in-Nowhere.is))
+pub returns-in-None : goal.returns-in-None
+returns-in-None c =
+    let list = c.args.list.now in
+    rw (by_entries list (right list c.if-list-lt1.false c.if-list-ne0.false c.if-count-gt-BUDGETS.false) None (sym c.in-None.ensures))

@@ -5,9 +5,9 @@ use Rattle.budgets.proofs.put_line.Goals as goal
 pub adding_pass-requires : goal.adding_pass-requires
 adding_pass-requires c =
     let p = c.requires in
-    line-passable p.indexed_low.index _ (p.judged _ p.indexed_low.index.means) c.fill_arrays.ensures _ p.bytes_in_bounds
+    line-passable p.indexed _ (p.judged _ p.indexed.means) _ c.fill_arrays.ensures _ p.bytes_in_bounds
 
 pub returns : goal.returns
 returns c =
     let p = c.requires in
-    line-passed p.indexed_low.index _ (p.judged _ p.indexed_low.index.means) c.fill_arrays.ensures c.adding_pass.ensures
+    line-passed p.indexed _ (p.judged _ p.indexed.means) _ c.fill_arrays.ensures c.adding_pass.ensures

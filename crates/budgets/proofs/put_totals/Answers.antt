@@ -13,8 +13,9 @@ pub returns : goal.returns
 returns c =
     let a = c.args in
     let out = a.out.now in
-    let first = number_fits out a.at 4 a.bits (omega arith) in
-    let room : a.at + 4 + 8 ≤ length (sets out a.at (bytes 4 a.bits)) = omega (arith, length-sets out a.at (bytes 4 a.bits)) in
+    let t = a.totals in
+    let first = number_fits out a.at 4 t.bits (omega arith) in
+    let room : a.at + 4 + 8 ≤ length (sets out a.at (bytes 4 t.bits)) = omega (arith, length-sets out a.at (bytes 4 t.bits)) in
     c.put_number-2.ensures
-    ∙ rw (c.put_number.ensures ∙ first) (number_fits _ (a.at + 4) 8 a.power room)
-    ∙ rw (ap (λ n. a.at + n) (length-bytes 4 a.bits)) at (sym (sets-append out a.at (bytes 4 a.bits) (bytes 8 a.power)))
+    ∙ rw (c.put_number.ensures ∙ first) (number_fits _ (a.at + 4) 8 t.power room)
+    ∙ rw (ap (λ n. a.at + n) (length-bytes 4 t.bits)) at (sym (sets-append out a.at (bytes 4 t.bits) (bytes 8 t.power)))

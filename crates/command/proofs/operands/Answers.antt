@@ -8,7 +8,7 @@ use Rattle.places.proofs.Entries.{entry-there}
 use Rattle.rows.specs.Rows.{width, row_at}
 use Rattle.rows.specs.Codes.{ShortToneCode, ToneCode, RestCode, HighCode}
 use Rattle.rows.proofs.Judging.{tone-row, rest-row, high-row}
-use Rattle.command.proofs.operands.Goals.{In-11, In-12, In-4-1, In_default, else-short-lt6+else-short-lt9+then-short-lt11, in_default-via-else-short-lt4+else-short-lt6+else-short-lt9+else-short-lt11, in_default-via-else-short-lt4+else-short-lt6+then-short-lt9, in_default-via-then-short-lt4, then-short-lt6}
+use Rattle.command.proofs.operands.Goals.{In-11, In-12, In-4-1, In_default, else-this-lt6+else-this-lt9+then-this-lt11, in_default-via-else-this-lt4+else-this-lt6+else-this-lt9+else-this-lt11, in_default-via-else-this-lt4+else-this-lt6+then-this-lt9, in_default-via-then-this-lt4, then-this-lt6}
 use Rattle.command.proofs.operands.Goals as goal
 
 -- a number or the one after it
@@ -20,9 +20,9 @@ one_of_two short k l h = by (ℕ_discrete short k)
     by (no n) = inr (omega arith)
 
 tone-code : (c : In-4-1) → ToneCode c.args.code
-tone-code c = rw (sym c.short_of-short.ensures) (elim c.in-4-1.branch [
-  | then-short-lt6 w ↦ inl (one_of_two c.short_of-short.result 4 (omega arith) (omega arith))
-  | else-short-lt6+else-short-lt9+then-short-lt11 w ↦ inr (one_of_two c.short_of-short.result 9 (omega arith) (omega arith))
+tone-code c = rw (sym c.short_of.ensures) (elim c.in-4-1.branch [
+  | then-this-lt6 w ↦ inl (one_of_two c.short_of.result 4 (omega arith) (omega arith))
+  | else-this-lt6+else-this-lt9+then-this-lt11 w ↦ inr (one_of_two c.short_of.result 9 (omega arith) (omega arith))
 ])
 
 -- a short byte of a tone's command is 4 or 5, or 9 or 10
@@ -33,35 +33,35 @@ within short (inr (inl e)) = inr (omega arith, omega arith)
 within short (inr (inr e)) = inr (omega arith, omega arith)
 
 no-tone : (c : In_default) → ToneCode c.args.code → ⊥
-no-tone c t = by (within short (rw (sym c.short_of-short.ensures) at t))
+no-tone c t = by (within short (rw (sym c.short_of.ensures) at t))
   where
     short : ℕ
-    short = c.short_of-short.result
+    short = c.short_of.result
 
     by : ((4 ≤ short) × (short < 6)) ⊎ ((9 ≤ short) × (short < 11)) → ⊥
     by (inl h) = elim c.in_default.branch [
-      | in_default-via-then-short-lt4 w ↦ omega arith
-      | in_default-via-else-short-lt4+else-short-lt6+then-short-lt9 w ↦ omega arith
-      | in_default-via-else-short-lt4+else-short-lt6+else-short-lt9+else-short-lt11 w ↦ omega arith
+      | in_default-via-then-this-lt4 w ↦ omega arith
+      | in_default-via-else-this-lt4+else-this-lt6+then-this-lt9 w ↦ omega arith
+      | in_default-via-else-this-lt4+else-this-lt6+else-this-lt9+else-this-lt11 w ↦ omega arith
     ]
     by (inr h) = elim c.in_default.branch [
-      | in_default-via-then-short-lt4 w ↦ omega arith
-      | in_default-via-else-short-lt4+else-short-lt6+then-short-lt9 w ↦ omega arith
-      | in_default-via-else-short-lt4+else-short-lt6+else-short-lt9+else-short-lt11 w ↦ omega arith
+      | in_default-via-then-this-lt4 w ↦ omega arith
+      | in_default-via-else-this-lt4+else-this-lt6+then-this-lt9 w ↦ omega arith
+      | in_default-via-else-this-lt4+else-this-lt6+else-this-lt9+else-this-lt11 w ↦ omega arith
     ]
 
 rest-code : (c : In-11) → RestCode c.args.code
-rest-code c = sym c.short_of-short.ensures ∙ c.in-11.is
+rest-code c = sym c.short_of.ensures ∙ c.in-11.is
 
 pub rest_command-requires : goal.rest_command-requires
 rest_command-requires c = record {
   code_in_bounds = omega (arith, ap (λ r. width r.operands) (rest-row c.args.code (rest-code (goal.at.rest_command-requires c).In-11)), c.requires.code_in_bounds);
   s_len_bound = omega arith;
-  in_range = λ l. (rw (entry-there c.args.s.now c.args.rested c.args.widened c.args.place l) at c.requires.entry_in_range).0;
+  in_range = λ l. (rw (entry-there c.args.s.now c.args.noted.rest c.args.noted.high c.args.noted.own l) at c.requires.entry_in_range).0;
 }
 
 high-code : (c : In-12) → HighCode c.args.code
-high-code c = sym c.short_of-short.ensures ∙ c.in-12.is
+high-code c = sym c.short_of.ensures ∙ c.in-12.is
 
 pub high_command-requires : goal.high_command-requires
 high_command-requires c =
@@ -71,10 +71,10 @@ high_command-requires c =
     }
 
 pub returns-in-11 : goal.returns-in-11
-returns-in-11 c = c.rest_command.ensures _ ∙ ap (row_at _ _ _ _) (rest-row c.args.code (rest-code (goal.at.returns-in-11 c).In-11))
+returns-in-11 c = c.rest_command.ensures ∙ ap (row_at _ _ _ _) (rest-row c.args.code (rest-code (goal.at.returns-in-11 c).In-11))
 
 pub returns-in-12 : goal.returns-in-12
-returns-in-12 c = c.high_command.ensures _ ∙ ap (row_at _ _ _ _) (high-row c.args.code (high-code (goal.at.returns-in-12 c).In-12))
+returns-in-12 c = c.high_command.ensures ∙ ap (row_at _ _ _ _) (high-row c.args.code (high-code (goal.at.returns-in-12 c).In-12))
 
 pub tone_command-requires : goal.tone_command-requires
 tone_command-requires c = record {
@@ -83,13 +83,13 @@ tone_command-requires c = record {
 }
 
 pub returns-in-4 : goal.returns-in-4
-returns-in-4 c = c.tone_command.ensures _ _ ∙ ap (row_at _ _ _ _) (tone-row c.args.code (tone-code (goal.at.returns-in-4 c).In-4-1))
+returns-in-4 c = c.tone_command.ensures ∙ ap (row_at _ _ _ _) (tone-row c.args.code (tone-code (goal.at.returns-in-4 c).In-4-1))
 
 pub line_operands-requires : goal.line_operands-requires
 line_operands-requires c = record {
   no_tone = no-tone (goal.at.line_operands-requires c).In_default;
-  no_rest = λ e. let short : c.short_of-short.result ≡ 11 = c.short_of-short.ensures ∙ e in omega arith;
-  no_high = λ e. let short : c.short_of-short.result ≡ 12 = c.short_of-short.ensures ∙ e in omega arith;
+  no_rest = λ e. let short : c.short_of.result ≡ 11 = c.short_of.ensures ∙ e in omega arith;
+  no_high = λ e. let short : c.short_of.result ≡ 12 = c.short_of.ensures ∙ e in omega arith;
   code_in_bounds = omega (arith, c.requires.code_in_bounds);
   s_len_bound = omega arith;
 }

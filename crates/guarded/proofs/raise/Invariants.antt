@@ -1,10 +1,6 @@
 -- `guarded::raise` meets its contract. Assumes nothing.
-use Prim.Native.Nat.{◌-◌}
-use Rattle.guarded.proofs.Raising.{RaisingOf}
+use Rattle.guarded.proofs.Raising.{Raising}
 use Rattle.guarded.proofs.raise.Given as goal
 
-abbrev pub invariant-loop-i : goal.invariant-loop-i
-invariant-loop-i l = RaisingOf l.s l.header l.places l.highs l.maps l.limits l.costs l.i
-
-abbrev pub decreases-loop-i : goal.decreases-loop-i
-decreases-loop-i l = l.header.size - l.i
+abbrev pub invariant-loop-tone : goal.invariant-loop-tone
+invariant-loop-tone l = Raising l.s l.fn.header l.index l.tones l.tone

@@ -1,10 +1,6 @@
 -- `line::limit_of` meets its contract. Assumes nothing.
-use Prim.Native.Nat.{◌-◌}
 use Rattle.line.proofs.Tries.{Between}
 use Rattle.line.proofs.limit_of.Given as goal
 
 abbrev pub invariant-loop-bits : goal.invariant-loop-bits
-invariant-loop-bits l = Between l.cost l.bounds l.shift l.bits l.tries l.power
-
-abbrev pub decreases-loop-bits : goal.decreases-loop-bits
-decreases-loop-bits l = l.cap - l.bits
+invariant-loop-bits l = Between l.cost l.bounds l.shift l.bits l.power

@@ -1,27 +1,35 @@
--- `outside::outside_budgets` meets its contract. Assumes nothing.
-use mathlib.Core.Path.{refl, sym, ap, ◌∙◌}
-use borrow.Author.Tests.{lt-ltb, le-ltb}
-use lib.ListN.{length}
+-- `outside::outside_budgets` meets its contract: without room for the answers it is what the call on no bytes is. Assumes nothing.
+use Rattle.std.proofs.Common.{List, ◌≡◌, refl, sym, ℕ, length, lt-ltb, le-ltb, Result, Ok, Err}
 use Rattle.sizes.specs.Sizes.{answer_room}
-use Rattle.budgets.proofs.Outcomes.{no_bytes}
-use Rattle.answers.specs.Answers.{code}
-use Rattle.answers.proofs.Stored.{ends, untouched}
+use Rattle.refusals.specs.declared.Refusal.{Refusal}
+use Rattle.refusals.specs.Writing.{write_numbers}
+use Rattle.answers.specs.Answers.{answer_bytes, answered}
+use Rattle.answers.proofs.Stored.{untouched}
+use Rattle.answers.proofs.Hosted.{ends}
 use Rattle.outside.proofs.outside_budgets.Goals as goal
 
-pub returns-then-answer-lt-ANSWER_BYTES : goal.returns-then-answer-lt-ANSWER_BYTES
-returns-then-answer-lt-ANSWER_BYTES c =
+-- a call that only writes has no answers, so it leaves their buffer
+kept : (r : Result (Unit {0}) Refusal) (answer : List ℕ) → answer ≡ answered (write_numbers r) answer
+unfolding answer_bytes
+kept (Ok done) answer = refl
+kept (Err q) answer = sym (untouched 0 q answer)
+
+pub returns-in-Ok : goal.returns-in-Ok
+returns-in-Ok c =
     let a = c.args in
-    let t = no_bytes a.sheet.now a.list.now in
-    rw (lt-ltb (length a.answer.now) answer_room c.if-answer-lt-ANSWER_BYTES.true) (record {
-      returned = c.of_write.ensures.returned ∙ ap code c.budgets-refused.ensures.numbers;
-      bytes = refl;
-      answers = rw t.is (sym (untouched 0 t.why a.answer.now));
-    })
+    let e = c.in-Ok.ensures.numbers in
+    rw (lt-ltb (length a.answer.now) answer_room c.if-answer-lt-ANSWER_BYTES.true, ← e) (record { returned = refl; bytes = refl; answers = kept (Ok tt) a.answer.now })
+
+pub returns-in-Err : goal.returns-in-Err
+returns-in-Err c =
+    let a = c.args in
+    let e = c.in-Err.ensures.numbers in
+    rw (lt-ltb (length a.answer.now) answer_room c.if-answer-lt-ANSWER_BYTES.true, ← e)
+    (record { returned = c.refused.ensures; bytes = refl; answers = kept (Err c.in-Err.why) a.answer.now })
 
 pub returns : goal.returns
 returns c =
     let a = c.args in
-    let e = c.budgets-written.ensures in
-    let p = ends c.of_write-2.ensures a.answer.now (c.put.ensures.returned, c.put.ensures.bytes) in
-    rw (le-ltb (length a.answer.now) answer_room c.if-answer-lt-ANSWER_BYTES.false, ← e.numbers)
-    (record { returned = p.0; bytes = e.bytes; answers = p.1 })
+    let e = c.budgets-2.ensures in
+    let p = ends _ 0 write_numbers (λ a. refl) (λ q. refl) _ e.numbers a.answer.now (c.reply.ensures.returned, c.reply.ensures.bytes) in
+    rw (le-ltb (length a.answer.now) answer_room c.if-answer-lt-ANSWER_BYTES.false) (record { returned = p.0; bytes = e.bytes; answers = p.1 })

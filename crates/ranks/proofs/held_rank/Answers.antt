@@ -13,15 +13,16 @@ pub step_size-requires : goal.step_size-requires
 step_size-requires c = record {
   steps_rise = c.requires.steps_rise (omega arith);
   cost_bound = c.requires.cost_bound;
-  bits_bound = le_trans (mul-le-mul_left c.args.doublings (omega arith)) c.requires.bits_bound;
+  bits_bound = le_trans (mul-le-mul_left c.args.steps.doublings (omega arith)) c.requires.bits_bound;
   bits_small = omega arith;
 }
 
 small : (c : After-step_size) → c.step_size.result < 2 ^ 39
 small c =
     let a = c.args in
+    let s = a.steps in
     rw c.step_size.ensures
-    (size_high a.cost a.doublings a.rest (a.bits - 1) c.requires.cost_bound (le_trans (mul-le-mul_left a.doublings (omega arith)) c.requires.bits_bound))
+    (size_high s.cost s.doublings s.rest (a.bits - 1) c.requires.cost_bound (le_trans (mul-le-mul_left s.doublings (omega arith)) c.requires.bits_bound))
 
 pub overflow_mul-result : goal.overflow_mul-result
 overflow_mul-result c = record { fits = omega (arith, small (goal.at.overflow_mul-result c).After-step_size) }

@@ -1,7 +1,8 @@
 -- `rows::silence_command` meets its contract. Assumes nothing.
-use mathlib.Core.Path.{◌≡◌, refl, sym, ◌∙◌}
+use mathlib.Core.Path.{◌≡◌, refl, sym, ap, ◌∙◌}
 use Prim.Native.Nat.{◌+◌}
 use native.Mathlib.Omega.{arith}
+use Rattle.std.specs.Prelude.{Err}
 use Rattle.bigendian.specs.Number.{number}
 use Rattle.bigendian.proofs.Numbers.{number-there}
 use Rattle.rows.proofs.Judging.{above, in_range, silence-operands}
@@ -14,7 +15,7 @@ map_read c = c.number_at-map.ensures.meaning ∙ number-there _ _ 4 (omega arith
 
 pub returns-then-word-ge-WORDS : goal.returns-then-word-ge-WORDS
 returns-then-word-ge-WORDS c known =
-    c.out_of_range.ensures ∙ sym (silence-operands _ known _ _ ∙ above _ _ _ _ refl (omega arith) (omega arith))
+    ap Err c.out_of_range.ensures ∙ sym (silence-operands _ known _ _ ∙ above _ _ _ _ refl (omega arith) (omega arith))
 
 pub returns-then-names_beyond : goal.returns-then-names_beyond
 returns-then-names_beyond c known =

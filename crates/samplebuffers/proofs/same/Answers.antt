@@ -1,24 +1,11 @@
--- `samplebuffers::same` meets its contract: between its turns the bytes passed are the same. Assumes nothing.
-use mathlib.Core.Bool.{true≢false}
-use mathlib.Core.Path.{sym}
-use native.Mathlib.Omega.{arith}
-use borrow.Author.Count.{below_more}
+-- `samplebuffers::same` meets its contract: lists of one length are equal just where their elements are. Assumes nothing.
+use Rattle.std.proofs.Common.{get_or, sym, ap, ◌∙◌, arith}
+use Rattle.std.proofs.lemmas.Grind.{same_number_lists}
+use Rattle.std.specs.Cmp.Lexicographic.{same_text, other_text}
 use Rattle.samplebuffers.proofs.same.Goals as goal
-
-pub loop-i-init : goal.loop-i-init
-loop-i-init c = λ j l. absurd (omega arith)
-
-pub returns-then-a-i : goal.returns-then-a-i
-returns-then-a-i c = record {
-  yes = λ e. absurd (true≢false (sym e));
-  no = λ e s. c.if-a-i.true (s c.loop-i.i (omega arith));
-}
-
-pub loop-i-preserved : goal.loop-i-preserved
-loop-i-preserved c = below_more _ _ c.loop-i.invariant c.if-a-i.false
 
 pub returns : goal.returns
 returns c = record {
-  yes = λ e i l. c.loop-i.invariant i (omega (arith, c.loop-i-test.false));
-  no = λ e s. true≢false e;
+  yes = λ e i l. ap (λ xs. get_or xs i 0) (same_text _ _ (sym e ∙ c.eq.ensures));
+  no = λ e s. other_text c.args.a.now c.args.b.now (sym e ∙ c.eq.ensures) (same_number_lists _ _ (omega arith) (λ k l. s k (omega arith)));
 }

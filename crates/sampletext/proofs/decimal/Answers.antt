@@ -1,16 +1,19 @@
--- `sampletext::decimal` meets its contract. The loop's invariant: what the value and the text from `i` on spell is what the text from `from` on spells, and `i` is within the text, at or after `from`. The measure is what is left of the text. Assumes nothing.
-use Rattle.std.proofs.Common.{arith}
+-- `sampletext::decimal` meets its contract. Assumes nothing.
+use Rattle.std.proofs.Common.{sym, ◌∙◌}
 use Rattle.sampletext.proofs.Characters.{spelled-end, spelled-other, spelled-full, spelled-next}
 use Rattle.sampletext.proofs.decimal.Goals as goal
+use Rattle.sampletext.proofs.decimal.Goals.{then-d-gt9-via-then-d-gt9, then-d-gt9-via-else-d-gt9+then-value-gt999999999}
 
 pub loop-i-preserved : goal.loop-i-preserved
-loop-i-preserved c = omega (arith, spelled-next c.args.text.now _ c.loop-i-test.true _ c.digit-d.ensures.0 c.if-d-gt9.false c.if-value-gt999999999.false)
+loop-i-preserved c = sym (spelled-next _ _ c.loop-i-test.true _ c.digit-d.ensures.0 c.if-d-gt9.false c.if-value-gt999999999.false) ∙ c.loop-i.invariant
 
-pub returns-after-loop-i : goal.returns-after-loop-i
-returns-after-loop-i c = omega (arith, spelled-end c.args.text.now _ c.loop-i-test.false c.loop-i.value)
+pub returns-then-d-gt9-clause-value : goal.returns-then-d-gt9-clause-value
+returns-then-d-gt9-clause-value c =
+    elim c.then-d-gt9.branch [
+      | then-d-gt9-via-then-d-gt9 w ↦ sym (spelled-other _ _ c.loop-i-test.true _ c.digit-d.ensures.0 w.if-d-gt9.true) ∙ c.loop-i.invariant
+      | then-d-gt9-via-else-d-gt9+then-value-gt999999999 w ↦
+          sym (spelled-full _ _ c.loop-i-test.true _ c.digit-d.ensures.0 w.if-d-gt9.false w.if-value-gt999999999.true) ∙ c.loop-i.invariant
+    ]
 
-pub returns-then-d-gt9 : goal.returns-then-d-gt9
-returns-then-d-gt9 c = omega (arith, spelled-other c.args.text.now _ c.loop-i-test.true c.loop-i.value c.digit-d.ensures.0 c.if-d-gt9.true)
-
-pub returns-then-value-gt999999999 : goal.returns-then-value-gt999999999
-returns-then-value-gt999999999 c = omega (arith, spelled-full c.args.text.now _ c.loop-i-test.true _ c.digit-d.ensures.0 c.if-d-gt9.false c.if-value-gt999999999.true)
+pub returns-clause-value : goal.returns-clause-value
+returns-clause-value c = sym (spelled-end _ _ c.loop-i-test.false _) ∙ c.loop-i.invariant

@@ -1,13 +1,42 @@
--- `sampletext::find` meets its contract. The loop's invariant: the place of the first wanted character is the same from `i` on as from `from` on, and `i` is within the bounds of the contract. The measure is what is left of the text. Assumes nothing.
-use Rattle.std.proofs.Common.{arith, eq-eqb, ne_eqb}
-use Rattle.sampletext.proofs.Characters.{skipped-end, skipped-found, skipped-next}
+-- `sampletext::find` meets its contract. What it passes over is what std's `position` passes over. Assumes nothing.
+use Rattle.std.proofs.Common.{◌≡◌, ℕ, ◌+◌, ◌≤◌, cond, eqb, ltb, List, [], ◌∷◌, length, drop, Option, Some, None, ◌∙◌, arith, rules, tests, drop_of_length-le}
+use Rattle.std.specs.List.{between, position_or_len}
+use Rattle.std.proofs.lemmas.Iterator.{YieldsList-from_slice}
+use Rattle.std.proofs.lemmas.Iterator.Search.{position_from_yields_List}
+use Rattle.std.proofs.lemmas.Slice.{between_to_end}
+use Rattle.std.proofs.lemmas.Bool.Decides.{nat_tests}
+use Rattle.std.proofs.lemmas.Grind.{common_steps}
+use Rattle.sampletext.specs.Text.{skipped}
 use Rattle.sampletext.proofs.find.Goals as goal
 
-pub loop-i-preserved : goal.loop-i-preserved
-loop-i-preserved c = omega (arith, skipped-next c.args.text.now _ c.loop-i-test.true _ (ne_eqb _ _ c.if-text-i.true))
+skipped-is : (wanted : ℕ) (text : List ℕ) → (skipped text wanted ≡ position_or_len (λ c. eqb c wanted) text) × (skipped text wanted ≤ length text)
+unfolding skipped
+skipped-is wanted [] = grind (arith, nat_tests)
+skipped-is wanted (c ∷ text) = let h = skipped-is wanted text in grind (arith, nat_tests)
 
-pub returns-else-text-i : goal.returns-else-text-i
-returns-else-text-i c = omega (arith, skipped-found c.args.text.now _ c.loop-i-test.true _ (eq-eqb _ _ c.if-text-i.false))
+pub returns-in_default-clause-value : goal.returns-in_default-clause-value
+unfolding skipped
+returns-in_default-clause-value c =
+    let h = c.in_default.ensures.lookup.0 in
+    let past : length c.args.text.now ≤ c.args.from = omega arith in
+    rw (drop_of_length-le c.args.text.now past) (omega arith)
 
-pub returns-after-loop-i : goal.returns-after-loop-i
-returns-after-loop-i c = omega (arith, skipped-end c.args.text.now _ c.loop-i-test.false c.args.wanted)
+-- what `position` answers of the rest that `get` gives
+place : (wanted : ℕ) (text rest : List ℕ) (from : ℕ) {r : Option ℕ} {E : Type 0}
+    → ((from ≤ length text) × (length text ≤ length text) × (rest ≡ between from (length text) text) × (length rest + from ≡ length text)) × E
+    → r ≡ cond (ltb (position_or_len (λ c. eqb c wanted) rest) (length rest)) (Some (position_or_len (λ c. eqb c wanted) rest)) None
+    → ((n : ℕ) → r ≡ Some n → from + n ≡ from + skipped (drop from text) wanted) × (r ≡ None → length text ≡ from + skipped (drop from text) wanted)
+place wanted text rest from {r} g p =
+    let h = skipped-is wanted rest in
+    let e : rest ≡ drop from text = g.0.2 ∙ between_to_end text from _ (omega arith) in
+    ((λ n s. grind (arith, nat_tests, common_steps)), (λ s. grind (arith, nat_tests, common_steps)))
+
+pub returns-in-Some-position-clause-value : goal.returns-in-Some-position-clause-value
+returns-in-Some-position-clause-value c =
+    let p = position_from_yields_List (λ x. eqb x c.args.wanted) _ _ c.position.result c.position.ensures.ran (YieldsList-from_slice c.in-Some.rest.now cc) (λ x b q k. search (rules, tests)) in
+    (place _ _ _ _ c.in-Some.ensures.lookup p).0 _ c.in-Some-position.is
+
+pub returns-in-None-clause-value : goal.returns-in-None-clause-value
+returns-in-None-clause-value c =
+    let p = position_from_yields_List (λ x. eqb x c.args.wanted) _ _ c.position.result c.position.ensures.ran (YieldsList-from_slice c.in-Some.rest.now cc) (λ x b q k. search (rules, tests)) in
+    (place _ _ _ _ c.in-Some.ensures.lookup p).1 c.in-None.is

@@ -2,18 +2,17 @@
 use mathlib.Core.Path.{◌≡◌}
 use mathlib.Core.Bool.{Bool}
 use mathlib.Core.List.{List}
-use Prim.Native.Nat.{ℕ, ◌-◌, ◌≤◌}
+use Prim.Native.Nat.{ℕ}
 use lib.Dec.{ltb}
 use lib.ListN.{get_or}
 use Rattle.silence.specs.Map.{count}
+use Rattle.places.specs.declared.Noted.{Noted}
+use Rattle.places.specs.Places.{nowhere}
 use Rattle.sheet.proofs.placed_count.Given as goal
 
 -- whether a tone has a place
-abbrev pub placed : List ℕ → (i : ℕ) → Bool
-placed places i = ltb 0 (get_or places i 0)
+abbrev pub placed : List Noted → (i : ℕ) → Bool
+placed tones i = ltb 0 (get_or tones i nowhere).own
 
-abbrev pub invariant-loop-i : goal.invariant-loop-i
-invariant-loop-i l = (l.i ≤ l.size) × (l.n ≡ count l.i (placed l.places))
-
-abbrev pub decreases-loop-i : goal.decreases-loop-i
-decreases-loop-i l = l.size - l.i
+abbrev pub invariant-loop-tone : goal.invariant-loop-tone
+invariant-loop-tone l = l.n ≡ count l.tone (placed l.tones)

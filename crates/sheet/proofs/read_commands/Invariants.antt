@@ -4,8 +4,8 @@ use lib.ListN.{length}
 use Rattle.sheet.proofs.Turns.{Going}
 use Rattle.sheet.proofs.read_commands.Given as goal
 
-abbrev pub invariant-loop-refusal : goal.invariant-loop-refusal
-invariant-loop-refusal l = Going l.s l.places l.rests l.highs l.maps l.header l.at l.stage
+abbrev pub invariant-loop-decoded : goal.invariant-loop-decoded
+invariant-loop-decoded l = Going l.s l.index l.header l.at l.stage
 
-abbrev pub decreases-loop-refusal : goal.decreases-loop-refusal
-decreases-loop-refusal l = suc (length l.s) - l.at
+abbrev pub decreases-loop-decoded : goal.decreases-loop-decoded
+decreases-loop-decoded l = suc (length l.s) - l.at

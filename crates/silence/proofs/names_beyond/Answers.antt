@@ -1,3 +1,4 @@
+-- `silence::names_beyond` meets its contract. Assumes nothing.
 use native.Mathlib.Omega.{arith}
 use Prim.Native.Nat.{ℕ, ◌*◌, ◌-◌}
 use mathlib.Core.Bool.{not}

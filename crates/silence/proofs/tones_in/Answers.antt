@@ -1,3 +1,4 @@
+-- `silence::tones_in` meets its contract. Assumes nothing.
 use Rattle.silence.proofs.Maps.{ones-count}
 use Rattle.silence.proofs.tones_in.Goals as goal
 

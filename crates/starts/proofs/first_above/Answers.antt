@@ -1,17 +1,13 @@
--- `starts::first_above_lem` meets its contract. Between the turns every tone below i keeps its limit. Assumes nothing.
-use mathlib.Core.Path.{sym}
-use native.Mathlib.Omega.{arith}
-use borrow.Author.Count.{below_more}
-use Rattle.starts.proofs.First.{none_above, above_at_lem}
+-- `starts::first_above` meets its contract. Assumes nothing.
+use borrow.Author.Rules.{rules}
+use borrow.Author.Tests.{tests}
+use Rattle.std.proofs.lemmas.Iterator.{YieldsList-from_slice, YieldsList-from_zip, IsFirst-from_position}
+use Rattle.starts.proofs.First.{over, keeps, found-first}
 use Rattle.starts.proofs.first_above.Goals as goal
 
-pub returns-then-limits-i : goal.returns-then-limits-i
-returns-then-limits-i c = λ T same.
-    let i = c.loop-i.i in
-    sym (above_at_lem T _ _ i (omega arith) (omega (arith, same.same_limit i (omega arith))) (λ j l. omega (arith, c.loop-i.invariant.1 j l, same.same_limit j (omega arith))))
-
-pub loop-i-preserved : goal.loop-i-preserved
-loop-i-preserved c = (omega arith, below_more _ _ c.loop-i.invariant.1 (omega arith))
-
 pub returns : goal.returns
-returns c = λ T same. sym (none_above T _ _ (λ j l. omega (arith, c.loop-i.invariant.1 j (omega arith), same.same_limit j l)))
+returns c =
+    found-first c.args.start.now c.args.tones.now c.requires _
+    (IsFirst-from_position c.position.new.self _ _ over keeps c.position.ensures.ran
+    (YieldsList-from_zip (YieldsList-from_slice c.args.start.now cc) (YieldsList-from_slice c.args.tones.now cc))
+    (λ x q k. search (rules, tests)) (λ x q k. search (rules, tests)))

@@ -1,12 +1,8 @@
--- `starts::no_bits` meets its contract. Between the turns the rests of the tones below i are added up. Assumes nothing.
+-- `starts::no_bits` meets its contract. Between the turns the rests of the tones below the index are added up. Assumes nothing.
 use mathlib.Core.Path.{◌≡◌}
-use Prim.Native.Nat.{◌-◌, ◌≤◌}
-use lib.ListN.{get_or}
 use Rattle.steps.specs.Tones.{sum}
+use Rattle.line.specs.Arrays.{rest_at}
 use Rattle.starts.proofs.no_bits.Given as goal
 
-abbrev pub invariant-loop-i : goal.invariant-loop-i
-invariant-loop-i l = (l.i ≤ l.count) × (l.power ≡ sum l.i (λ j. get_or l.rests j 0))
-
-abbrev pub decreases-loop-i : goal.decreases-loop-i
-decreases-loop-i l = l.count - l.i
+abbrev pub invariant-loop-steps : goal.invariant-loop-steps
+invariant-loop-steps l = l.power ≡ sum l.steps-index (rest_at l.tones)

@@ -1,48 +1,39 @@
--- `tidylengths::tones_bytes` meets its contract. Between the turns the tones below i are counted. Assumes nothing.
-use mathlib.Core.Path.{◌≡◌}
+-- `tidylengths::tones_bytes` meets its contract. Between the turns the tones below `tone` are counted. Assumes nothing.
 use native.Mathlib.Numerals.{add-one}
 use native.Mathlib.Omega.{arith}
 use lib.ListN.{get_or}
 use Rattle.lists.proofs.Joined.{length_none, length-next}
-use Rattle.tidylengths.specs.Copies.{copy_at}
-use Rattle.tidylengths.proofs.Commands.{length-entry}
+use Rattle.places.specs.Places.{nowhere}
+use Rattle.tidylengths.specs.Copies.{copy_at, AllInside}
+use Rattle.tidylengths.proofs.Commands.{kept-inside, length-kept}
+use Rattle.tidylengths.proofs.tones_bytes.Goals.{After-kept-kept}
 use Rattle.tidylengths.proofs.tones_bytes.Goals as goal
 
-pub loop-i-init : goal.loop-i-init
-loop-i-init c =
+-- the commands that are kept are all there
+inside : (c : After-kept-kept) → AllInside c.args.s.now c.kept-kept.result
+inside c =
+    let tone = c.loop-tone.tone in
+    kept-inside c.args.s.now (get_or c.args.tones.now tone nowhere) c.kept-kept.ensures (c.requires.inside tone)
+
+pub loop-tone-init : goal.loop-tone-init
+loop-tone-init c = (omega (arith, length_none (copy_at c.args.s.now c.args.tones.now)), omega arith)
+
+pub command_bytes-requires : goal.command_bytes-requires
+command_bytes-requires c = (inside (goal.at.command_bytes-requires c).After-kept-kept).own
+
+pub command_bytes-requires-in-loop-tone : goal.command_bytes-requires-in-loop-tone
+command_bytes-requires-in-loop-tone c = (inside (goal.at.command_bytes-requires-in-loop-tone c).After-kept-kept).rest
+
+pub command_bytes-requires-in-loop-tone-2 : goal.command_bytes-requires-in-loop-tone-2
+command_bytes-requires-in-loop-tone-2 c = (inside (goal.at.command_bytes-requires-in-loop-tone-2 c).After-kept-kept).high
+
+pub loop-tone-preserved : goal.loop-tone-preserved
+loop-tone-preserved c =
+    let l = c.loop-tone in
     let a = c.args in
-    (omega arith, omega (arith, length_none (copy_at a.s.now a.places.now a.rests.now a.highs.now)), omega arith)
-
-pub tone_bytes-requires : goal.tone_bytes-requires
-tone_bytes-requires c = c.requires.places_inside c.loop-i.i
-
-pub rest_bytes-requires : goal.rest_bytes-requires
-rest_bytes-requires c = c.requires.rests_inside c.loop-i.i
-
-pub overflow_add-bytes : goal.overflow_add-bytes
-overflow_add-bytes c = omega (arith, c.tone_bytes.ensures.1, c.rest_bytes.ensures.1)
-
-pub high_bytes-requires : goal.high_bytes-requires
-high_bytes-requires c = c.requires.highs_inside c.loop-i.i
-
-pub overflow_add-bytes-in-loop-i : goal.overflow_add-bytes-in-loop-i
-overflow_add-bytes-in-loop-i c = omega (arith, c.tone_bytes.ensures.1, c.rest_bytes.ensures.1, c.high_bytes.ensures.1)
-
-pub overflow_add-bytes-in-loop-i-2 : goal.overflow_add-bytes-in-loop-i-2
-overflow_add-bytes-in-loop-i-2 c = omega (arith, c.tone_bytes.ensures.1, c.rest_bytes.ensures.1, c.high_bytes.ensures.1)
-
-pub loop-i-preserved : goal.loop-i-preserved
-loop-i-preserved c =
-    let l = c.loop-i in
-    let a = c.args in
-    let more = length-next (copy_at a.s.now a.places.now a.rests.now a.highs.now) l.i in
-    let all = length-entry a.s.now l.i (get_or a.places.now l.i 0) (get_or a.rests.now l.i 0) (get_or a.highs.now l.i 0) in
-    let t = c.tone_bytes.ensures in
-    let r = c.rest_bytes.ensures in
-    let h = c.high_bytes.ensures in
-    rw add-one (omega arith, omega (arith, more, all, l.invariant.1, t.0, r.0, h.0), omega (arith, t.1, r.1, h.1))
-
-pub returns : goal.returns
-returns c =
-    let e : c.loop-i.i ≡ c.args.size = omega arith in
-    (rw e at c.loop-i.invariant.1, omega arith)
+    let more = length-next (copy_at a.s.now a.tones.now) l.tone in
+    let all = length-kept a.s.now l.tone (get_or a.tones.now l.tone nowhere) c.kept-kept.ensures in
+    let own = c.command_bytes.ensures in
+    let rest = c.command_bytes-in-loop-tone.ensures in
+    let high = c.command_bytes-in-loop-tone-2.ensures in
+    rw add-one (omega (arith, more, all, l.invariant.0, own.0, rest.0, high.0), omega (arith, own.1, rest.1, high.1))

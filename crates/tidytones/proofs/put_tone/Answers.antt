@@ -3,47 +3,48 @@ use mathlib.Core.Path.{sym, ◌∙◌}
 use Prim.Native.Nat.{◌+◌, ◌≤◌}
 use native.Mathlib.Omega.{arith}
 use lib.ListN.{length}
-use Rattle.tidylengths.specs.Copies.{tone_copy, rest_copy, high_copy}
-use Rattle.tidylengths.proofs.Commands.{length-entry}
+use Rattle.tidylengths.specs.Copies.{AllInside, tone_copy}
+use Rattle.tidylengths.proofs.Commands.{kept-inside, length-kept}
 use Rattle.tidytones.proofs.Writes.{entry-stores}
-use Rattle.tidytones.proofs.put_tone.Goals.{Start}
+use Rattle.tidytones.proofs.put_tone.Goals.{After-kept-kept}
 use Rattle.tidytones.proofs.put_tone.Goals as goal
 
--- all three commands have room
-room : (c : Start) → (let a = c.args in
-    a.at + length (tone_copy a.s.now a.tone a.place) + length (rest_copy a.s.now a.tone a.rested)
-    + length (high_copy a.s.now a.tone a.place a.widened) ≤ length a.out.now)
-room c = let a = c.args in omega (arith, c.requires.bytes_in_bounds, length-entry a.s.now a.tone a.place a.rested a.widened)
+-- the commands that are kept are all there
+inside : (c : After-kept-kept) → AllInside c.args.s.now c.kept-kept.result
+inside c = kept-inside c.args.s.now c.args.noted c.kept-kept.ensures c.requires.inside
 
-pub put_own-own_end-requires : goal.put_own-own_end-requires
-put_own-own_end-requires c = record {
-  inside = c.requires.own_inside;
-  bytes_in_bounds = omega (arith, room (goal.at.put_own-own_end-requires c).Start);
-}
+-- and have room
+room : (c : After-kept-kept) → (let a = c.args in
+    let k = c.kept-kept.result in
+    a.at + length (tone_copy a.s.now a.tone k.own) + length (tone_copy a.s.now a.tone k.rest) + length (tone_copy a.s.now a.tone k.high)
+    ≤ length a.out.now)
+room c = let a = c.args in omega (arith, c.requires.bytes_in_bounds, length-kept a.s.now a.tone a.noted c.kept-kept.ensures)
 
-pub put_rest-rest_end-requires : goal.put_rest-rest_end-requires
-put_rest-rest_end-requires c =
-    let own = c.put_own-own_end in
+pub put_any-own_end-requires : goal.put_any-own_end-requires
+put_any-own_end-requires c =
+    let p = (goal.at.put_any-own_end-requires c).After-kept-kept in
+    record { inside = (inside p).own; bytes_in_bounds = omega (arith, room p) }
+
+pub put_any-rest_end-requires : goal.put_any-rest_end-requires
+put_any-rest_end-requires c =
+    let p = (goal.at.put_any-rest_end-requires c).After-kept-kept in
+    record { inside = (inside p).rest; bytes_in_bounds = omega (arith, room p, c.put_any-own_end.ensures.place) }
+
+pub put_any-requires : goal.put_any-requires
+put_any-requires c =
+    let p = (goal.at.put_any-requires c).After-kept-kept in
     record {
-      inside = c.requires.rest_inside;
-      bytes_in_bounds = omega (arith, room (goal.at.put_rest-rest_end-requires c).Start, own.ensures.place);
-    }
-
-pub put_high-requires : goal.put_high-requires
-put_high-requires c =
-    let own = c.put_own-own_end in
-    let rest = c.put_rest-rest_end in
-    record {
-      inside = c.requires.high_inside;
-      bytes_in_bounds = omega (arith, room (goal.at.put_high-requires c).Start, own.ensures.place, rest.ensures.place);
+      inside = (inside p).high;
+      bytes_in_bounds = omega (arith, room p, c.put_any-own_end.ensures.place, c.put_any-rest_end.ensures.place);
     }
 
 pub returns : goal.returns
 returns c =
     let a = c.args in
-    let own = c.put_own-own_end.ensures in
-    let rest = c.put_rest-rest_end.ensures in
-    let high = c.put_high.ensures in record {
-      place = omega (arith, own.place, rest.place, high.place, length-entry a.s.now a.tone a.place a.rested a.widened);
-      bytes = high.bytes ∙ rw (rest.place, rest.bytes, own.place, own.bytes) (sym (entry-stores a.s.now a.tone a.place a.rested a.widened a.out.now a.at));
+    let own = c.put_any-own_end.ensures in
+    let rest = c.put_any-rest_end.ensures in
+    let high = c.put_any.ensures in
+    record {
+      place = omega (arith, own.place, rest.place, high.place, length-kept a.s.now a.tone a.noted c.kept-kept.ensures);
+      bytes = high.bytes ∙ rw (rest.place, rest.bytes, own.place, own.bytes) (sym (entry-stores a.s.now a.tone a.noted c.kept-kept.ensures a.out.now a.at));
     }

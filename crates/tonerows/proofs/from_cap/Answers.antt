@@ -1,7 +1,8 @@
 -- `tonerows::from_cap` meets its contract. Assumes nothing.
-use mathlib.Core.Path.{◌≡◌, refl, sym, ◌∙◌}
+use mathlib.Core.Path.{◌≡◌, refl, sym, ap, ◌∙◌}
 use Prim.Native.Nat.{◌+◌}
 use native.Mathlib.Omega.{arith}
+use Rattle.std.specs.Prelude.{Err}
 use Rattle.bigendian.specs.Number.{number}
 use Rattle.bigendian.proofs.Numbers.{number-there}
 use Rattle.rows.proofs.Judging.{above, in_range, cap-operands}
@@ -13,11 +14,11 @@ mask-read c = c.number_at.ensures.meaning ∙ number-there _ _ 8 (omega arith) (
 
 pub returns-then-most-s : goal.returns-then-most-s
 returns-then-most-s c = λ h known values.
-    c.out_of_range.ensures ∙ sym (cap-operands h known _ _ _ values _ ∙ above _ _ _ _ refl (omega arith) c.if-most-s.true)
+    ap Err c.out_of_range.ensures ∙ sym (cap-operands h known _ _ _ values _ ∙ above _ _ _ _ refl (omega arith) c.if-most-s.true)
 
 pub returns-then-number_at-gt-MOST_POWER : goal.returns-then-number_at-gt-MOST_POWER
 returns-then-number_at-gt-MOST_POWER c = λ h known values.
-    c.out_of_range-then-number_at-gt-MOST_POWER.ensures
+    ap Err c.out_of_range-then-number_at-gt-MOST_POWER.ensures
     ∙ sym (cap-operands h known _ _ _ values _
     ∙ in_range _ _ _ _ refl (omega arith) c.if-most-s.false
     ∙ above _ _ _ _ (mask-read (goal.at.returns-then-number_at-gt-MOST_POWER c).After-number_at) (omega arith) c.if-number_at-gt-MOST_POWER.true)

@@ -40,7 +40,7 @@ pub returns-then-not-is_usable : goal.returns-then-not-is_usable
 returns-then-not-is_usable c = λ known.
     let a = c.args in
     let p = goal.at.returns-then-not-is_usable c in
-    c.float_out_of_range.ensures ∙ sym (level-operands a.header known a.s.now a.at a.tone ∙ rw (noise-bad p.Then-not-is_usable (noise-read p.After-number_at-noise)))
+    sym (level-operands a.header known a.s.now a.at a.tone ∙ rw (noise-bad p.Then-not-is_usable (noise-read p.After-number_at-noise)))
 
 pub returns-then-not-is_usable-2 : goal.returns-then-not-is_usable-2
 returns-then-not-is_usable-2 c = λ known.
@@ -48,7 +48,7 @@ returns-then-not-is_usable-2 c = λ known.
     let p = goal.at.returns-then-not-is_usable-2 c in
     let good = noise-good p.Else-not-is_usable (noise-read p.After-number_at-noise) in
     let bad = gain-bad p.Then-not-is_usable-2 (gain-read p.After-number_at-gain) in
-    c.float_out_of_range-then-not-is_usable-2.ensures ∙ sym (level-operands a.header known a.s.now a.at a.tone ∙ rw (good, bad))
+    sym (level-operands a.header known a.s.now a.at a.tone ∙ rw (good, bad))
 
 pub is_over-requires : goal.is_over-requires
 is_over-requires c =
@@ -70,8 +70,7 @@ returns-then-is_over c = λ known.
     let noise = noise-read p.After-number_at-noise in
     let gain = gain-read p.After-number_at-gain in
     let over = over-as p.After-is_over noise gain ∙ c.if-is_over.true in
-    c.cost_out_of_range.ensures
-    ∙ sym (level-operands a.header known a.s.now a.at a.tone ∙ rw (noise-good p.Else-not-is_usable noise, gain-good p.Else-not-is_usable-2 gain, over))
+    sym (level-operands a.header known a.s.now a.at a.tone ∙ rw (noise-good p.Else-not-is_usable noise, gain-good p.Else-not-is_usable-2 gain, over))
 
 pub returns : goal.returns
 returns c = λ known.

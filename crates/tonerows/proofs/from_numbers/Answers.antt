@@ -1,8 +1,9 @@
 -- `tonerows::from_numbers` meets its contract. Assumes nothing.
 use mathlib.Core.List.{[], ◌∷◌}
-use mathlib.Core.Path.{◌≡◌, sym, ◌∙◌}
+use mathlib.Core.Path.{◌≡◌, sym, ap, ◌∙◌}
 use Prim.Native.Nat.{◌+◌}
 use native.Mathlib.Omega.{arith}
+use Rattle.std.specs.Prelude.{Err}
 use Rattle.bigendian.specs.Number.{number}
 use Rattle.bigendian.proofs.Numbers.{number-there}
 use Rattle.rows.proofs.Judging.{below, in_range, number-operands}
@@ -17,12 +18,12 @@ gain-read c = c.number_at-2.ensures.meaning ∙ number-there _ _ 2 (omega arith)
 
 pub returns-then-number_at-lt1 : goal.returns-then-number_at-lt1
 returns-then-number_at-lt1 c = λ h known.
-    c.out_of_range.ensures
+    ap Err c.out_of_range.ensures
     ∙ sym (number-operands h known _ _ _ c.args.is_single ∙ below _ _ _ _ (noise-read (goal.at.returns-then-number_at-lt1 c).After-number_at) c.if-number_at-lt1.true)
 
 pub returns-then-number_at-lt1-2 : goal.returns-then-number_at-lt1-2
 returns-then-number_at-lt1-2 c = λ h known.
-    c.out_of_range-then-number_at-lt1-2.ensures
+    ap Err c.out_of_range-then-number_at-lt1-2.ensures
     ∙ sym (number-operands h known _ _ _ c.args.is_single
     ∙ in_range _ _ _ _ (noise-read (goal.at.returns-then-number_at-lt1-2 c).After-number_at) c.if-number_at-lt1.false (omega (arith, c.number_at.ensures.range))
     ∙ below _ _ _ _ (gain-read (goal.at.returns-then-number_at-lt1-2 c).After-number_at-2) c.if-number_at-lt1-2.true)

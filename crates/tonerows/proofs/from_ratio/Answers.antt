@@ -24,7 +24,7 @@ returns-then-not-is_usable c = λ known.
     let a = c.args in
     let p = goal.at.returns-then-not-is_usable c in
     let bad = judged-as p.After-is_usable (bits-read p.After-number_at-bits) ∙ c.if-not-is_usable.true in
-    c.float_out_of_range.ensures ∙ sym (ratio-operands a.header known a.s.now a.at a.tone ∙ rw bad)
+    sym (ratio-operands a.header known a.s.now a.at a.tone ∙ rw bad)
 
 pub is_over-requires : goal.is_over-requires
 is_over-requires c = rw c.float_of-ratio.ensures (usable-float _ (sym c.is_usable.ensures ∙ c.if-not-is_usable.false))
@@ -41,7 +41,7 @@ returns-then-is_over c = λ known.
     let read = bits-read p.After-number_at-bits in
     let good = judged-as p.After-is_usable read ∙ c.if-not-is_usable.false in
     let over = over-as p.After-is_over read ∙ c.if-is_over.true in
-    c.cost_out_of_range.ensures ∙ sym (ratio-operands a.header known a.s.now a.at a.tone ∙ rw (good, over))
+    sym (ratio-operands a.header known a.s.now a.at a.tone ∙ rw (good, over))
 
 pub returns : goal.returns
 returns c = λ known.

@@ -1,4 +1,6 @@
 -- `toqhaymi::toqhaymi_load_most` meets its contract. Assumes nothing.
+use Rattle.std.proofs.Common.{refl}
+use Rattle.loadings.specs.Loads.{load_numbers}
 use Rattle.answers.proofs.Hosted.{short-writes, long-writes}
 use Rattle.toqhaymi.proofs.toqhaymi_load_most.Goals as goal
 
@@ -9,6 +11,6 @@ returns-then-answer-lt-ANSWER_BYTES c =
 
 pub returns : goal.returns
 returns c =
-    let e = c.load_most-loaded.ensures in
-    let p = long-writes _ _ c.if-answer-lt-ANSWER_BYTES.false e.numbers c.of_load.ensures (c.put.ensures.returned, c.put.ensures.bytes) _ e.bytes in
+    let e = c.load_most.ensures in
+    let p = long-writes _ 2 load_numbers (λ a. refl) (λ q. refl) _ _ c.if-answer-lt-ANSWER_BYTES.false e.numbers (c.reply.ensures.returned, c.reply.ensures.bytes) _ e.bytes in
     record { returned = p.0; bytes = p.1.0; answers = p.1.1 }

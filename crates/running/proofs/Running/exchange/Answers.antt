@@ -5,9 +5,6 @@ use Rattle.running.specs.Running.{taken}
 use Rattle.running.proofs.Changes.{exchanges, both-followed}
 use Rattle.running.proofs.Running.exchange.Goals as goal
 
-pub take-requires : goal.take-requires
-take-requires c = rw (← c.give_up-self.ensures.value) at c.requires.can_take
-
 pub returns : goal.returns
 returns c =
     let f = c.args.f in

@@ -8,25 +8,13 @@ use Rattle.sizes.specs.Sizes.{most_tones}
 use Rattle.running.proofs.Changes.{followed, gave-up}
 use Rattle.running.proofs.Running.give_up.Goals as goal
 
-pub put_ranks-requires : goal.put_ranks-requires
-put_ranks-requires c =
-    let P = c.requires in
-    let I = P.in_range in
-    record {
-      tone_lt_most_tones = omega (arith, P.tone, I.count_high);
-      cost_bound = I.cost_high _ P.tone;
-      limit_bound = I.shift_high _ P.tone;
-      steps_rise = I.steps_rise _ P.tone;
-      bits_le_limit = omega (arith, P.under);
-    }
-
 pub returns : goal.returns
 returns c =
     let s = c.args in
     let P = c.requires in
     let n : length s.self.bits ≡ most_tones = search rules in
     let l : s.h.tone < most_tones = omega (arith, P.tone, P.in_range.count_high) in
-    let stored = c.put_ranks.ensures in
+    let stored = c.put.ensures in
     record {
       value = refl;
       leads = gave-up (omega arith);

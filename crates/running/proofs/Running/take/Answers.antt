@@ -6,24 +6,8 @@ use native.Mathlib.Omega.{arith}
 use borrow.Author.Rules.{rules}
 use lib.ListN.{length, get_or}
 use Rattle.sizes.specs.Sizes.{most_tones}
-use Rattle.line.proofs.Arrays.{limit-small}
 use Rattle.running.proofs.Changes.{followed, took}
 use Rattle.running.proofs.Running.take.Goals as goal
-
-pub overflow_add-more : goal.overflow_add-more
-overflow_add-more c = let P = c.requires in record { fits = omega (arith, limit-small P.in_range _ P.tone, P.free) }
-
-pub put_ranks-requires : goal.put_ranks-requires
-put_ranks-requires c =
-    let P = c.requires in
-    let I = P.in_range in
-    record {
-      tone_lt_most_tones = omega (arith, P.tone, I.count_high);
-      cost_bound = I.cost_high _ P.tone;
-      limit_bound = I.shift_high _ P.tone;
-      steps_rise = I.steps_rise _ P.tone;
-      bits_le_limit = omega (arith, P.free);
-    }
 
 pub returns : goal.returns
 returns c =
@@ -32,7 +16,7 @@ returns c =
     let n : length s.self.bits ≡ most_tones = search rules in
     let l : s.f.tone < most_tones = omega (arith, P.tone, P.in_range.count_high) in
     let more = add-one (get_or s.self.bits s.f.tone 0) in
-    let stored = c.put_ranks.ensures in
+    let stored = c.put.ensures in
     record {
       value = rw more refl;
       leads = rw more (took (omega arith));

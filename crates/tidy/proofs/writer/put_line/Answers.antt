@@ -8,21 +8,21 @@ use Rattle.sheet.proofs.Sound.{Bytes}
 use Rattle.sheet.proofs.Uses.{size_high}
 use Rattle.tidyform.specs.Tidy.{head_bytes, map_bytes}
 use Rattle.tidylengths.specs.Copies.{copies}
-use Rattle.tidy.proofs.Index.{tones-inside, rests-inside, highs-inside, tidy-bytes, tidy-stores}
+use Rattle.tidy.proofs.Index.{tones-inside, tidy-bytes, tidy-stores}
 use Rattle.tidy.proofs.writer.put_line.Goals.{Start, After-put_tones-tones_end}
 use Rattle.tidy.proofs.writer.put_line.Goals as goal
 
 -- the tidy form has room
 room : (c : Start) → Bytes c.args.s.now → (let a = c.args in
-    length (head_bytes a.header) + length (copies a.header.size a.s.now a.places.now a.rests.now a.highs.now)
-    + length (map_bytes most_words a.maps.now) + end_command ≤ length a.out.now)
+    length (head_bytes a.header) + length (copies a.header.size a.s.now a.index.now.tones)
+    + length (map_bytes most_words a.index.now.maps) + end_command ≤ length a.out.now)
 room c b =
     let x = c.requires.indexed in
     omega (arith, tidy-bytes x b x.line x.means, c.requires.form_in_bounds x.line x.means)
 
 -- the place after the tones
 tones-at : (c : After-put_tones-tones_end) → (let a = c.args in
-    c.put_tones-tones_end.result ≡ length (head_bytes a.header) + length (copies a.header.size a.s.now a.places.now a.rests.now a.highs.now))
+    c.put_tones-tones_end.result ≡ length (head_bytes a.header) + length (copies a.header.size a.s.now a.index.now.tones))
 tones-at c = omega (arith, c.put_tones-tones_end.ensures.place, c.put_header-header_end.ensures.place)
 
 -- the buffer keeps its length at the first two calls
@@ -38,9 +38,7 @@ put_tones-tones_end-requires c =
     let x = c.requires.indexed in
     record {
       size_le_most_tones = size_high x b;
-      places_inside = tones-inside x;
-      rests_inside = rests-inside x;
-      highs_inside = highs-inside x;
+      inside = tones-inside x;
       bytes_in_bounds = rw c.put_header-header_end.auto.out (omega (arith, c.put_header-header_end.ensures.place, room (goal.at.put_tones-tones_end-requires c).Start b));
     }
 
