@@ -17,12 +17,10 @@ use Rattle.line.specs.Line.{undescribed, Line, gap_of, no_steps, entry_steps, st
 use Rattle.line.specs.Arrays.{Arrays, steps_in, ArraysOf}
 use Rattle.rows.specs.declared.Header.{Header}
 use Rattle.sheet.specs.declared.Index.{Index}
-use Rattle.sheet.specs.Index.{Indexed}
 use Rattle.sheet.specs.Reading.{said}
 use Rattle.sheet.proofs.Sound.{Bytes, Sound}
-use Rattle.sheet.proofs.Uses.{size_is}
-use Rattle.arrays.specs.Tones.{Blank, HoldsLineOf}
-use Rattle.arrays.proofs.Indexed.{SoundIndex, sound-index}
+use Rattle.sheet.proofs.Uses.{size_is, line-sound}
+use Rattle.arrays.specs.Tones.{Blank, IndexedLow, HoldsLineOf}
 
 -- the first i tones of a line are in the array, and nothing past them
 pub record Filling (l : Line) (A : Arrays) (i : ℕ) : Type 0 where
@@ -59,19 +57,20 @@ filling-all {l} {A} {i} S F all = record { sized = F.sized; agree = λ k. by k (
 
 -- ---- as the code goes
 
--- an index of a sheet, and the first i tones of its line in the array
+-- an index of a sheet for what goes by the low noises, and the first i tones of its line in the array
 pub record FillingOf (s : List ℕ) (h : Header) (x : Index) (A : Arrays) (i : ℕ) : Type 0 where
-  pub index : SoundIndex s h x
-  pub filling : Filling index.indexed.line A i
+  pub low : IndexedLow s h x
+  pub sound : Sound low.index.line
+  pub filling : Filling low.index.line A i
 
-pub filling-starts : {s : List ℕ} {h : Header} {x : Index} {A : Arrays} → Bytes s → Indexed s h x → Blank A → FillingOf s h x A 0
-filling-starts b I N = record { index = sound-index b I; filling = rw N.none (filling-none I.line) }
+pub filling-starts : {s : List ℕ} {h : Header} {x : Index} {A : Arrays} → Bytes s → IndexedLow s h x → Blank A → FillingOf s h x A 0
+filling-starts b L N = record { low = L; sound = line-sound L.index b; filling = rw N.none (filling-none L.index.line) }
 
 module _ {s : List ℕ} {h : Header} {x : Index} {A : Arrays} {i : ℕ} (F : FillingOf s h x A i) where
   -- one tone more
-  pub filled_next : i < most_tones → (steps : Steps) → steps ≡ steps_at F.index.indexed.line i → FillingOf s h x (set A i steps) (i + 1)
-  filled_next inside steps e = record { index = F.index; filling = filling-more F.filling inside steps e }
+  pub filled_next : i < most_tones → (steps : Steps) → steps ≡ steps_at F.low.index.line i → FillingOf s h x (set A i steps) (i + 1)
+  filled_next inside steps e = record { low = F.low; sound = F.sound; filling = filling-more F.filling inside steps e }
 
   -- all of them are in
   pub filled-line : h.size ≤ i → HoldsLineOf (said s) A
-  filled-line all = rw F.index.indexed.means (F.index.sound.in_range, filling-all F.index.sound F.filling (omega (arith, size_is F.index.indexed)))
+  filled-line all = rw F.low.index.means (F.sound.in_range, filling-all F.sound F.filling (omega (arith, size_is F.low.index)))

@@ -2,7 +2,7 @@
 -- Assumes nothing.
 use mathlib.Core.Bool.{Bool, true, false}
 use mathlib.Core.List.{List}
-use mathlib.Core.Path.{◌≡◌, refl}
+use mathlib.Core.Path.{◌≡◌, refl, sym, ap, ◌∙◌}
 use Prim.Native.Nat.{ℕ, zero, suc, ◌≤◌, ◌<◌}
 use native.Mathlib.Omega.{arith}
 use Rattle.sizes.specs.Sizes.{most_tones}
@@ -17,6 +17,7 @@ use Rattle.sheet.specs.declared.Index.{Index}
 use Rattle.sheet.specs.Index.{noted_of, Indexed}
 use Rattle.sheet.proofs.Sound.{Bytes, Sound}
 use Rattle.sheet.proofs.Uses.{size_is, gap_is, silenced-here, line-sound}
+use Rattle.arrays.specs.Tones.{IndexedLow}
 
 -- an index of a sheet, and what holds of every line that a sheet means
 pub record SoundIndex (s : List ℕ) (h : Header) (x : Index) : Type 0 where
@@ -36,6 +37,10 @@ own-steps g s place rest high true = refl
 own-steps g s zero rest high false = refl
 own-steps g s (suc p) rest high false = refl
 
+-- an index is one for what goes by the low noises
+pub own-low : {s : List ℕ} {h : Header} {x : Index} → Indexed s h x → IndexedLow s h x
+own-low {x = x} I = record { other = x; index = I; same_own = λ i. refl; same_rest = λ i. refl; same_maps = refl }
+
 module _ {s : List ℕ} {h : Header} {x : Index} (X : SoundIndex s h x) where
   pub size_high : h.size ≤ most_tones
   size_high = omega (arith, size_is X.indexed, X.sound.in_range.size_high)
@@ -48,3 +53,24 @@ module _ {s : List ℕ} {h : Header} {x : Index} (X : SoundIndex s h x) where
   -- what is found by its places is that of tone i of the line
   pub steps-found : (i : ℕ) {g : ℕ} {q : Bool} → g ≡ parts h.gap → q ≡ silenced x.maps i → entry_steps g (entry_noted s (noted_of x i)) q ≡ steps_at X.indexed.line i
   steps-found i gap silent = rw (gap, silent, ← silenced-here X.indexed.indexes i, ← X.indexed.indexes.entry i, ← gap_is X.indexed)
+
+-- what is found by the places of such an index
+module _ {s : List ℕ} {h : Header} {x : Index} (L : IndexedLow s h x) (S : Sound L.index.line) where
+  abbrev low-sound : SoundIndex s h L.other
+  low-sound = record { indexed = L.index; sound = S }
+
+  pub low-size-high : h.size ≤ most_tones
+  low-size-high = size_high low-sound
+
+  pub low-in-range : (i : ℕ) → i < h.size → 0 < (noted_of x i).own → InRange (parts h.gap) (tone_at s (noted_of x i).own)
+  low-in-range i l = rw (L.same_own i) (tone-in-range low-sound i l)
+
+  pub low-steps-found : (i : ℕ) {g : ℕ} {q : Bool} → g ≡ parts h.gap → q ≡ silenced x.maps i → entry_steps g (entry_noted s (noted_of x i)) q ≡ steps_at L.index.line i
+  low-steps-found i {g} {q} gap silent =
+      let n = noted_of x i in
+      let m = noted_of L.other i in
+      own-steps g s n.own n.rest n.high q
+      ∙ ap (λ (own : ℕ). entry_steps g (entry_at s own n.rest 0) q) (L.same_own i)
+      ∙ ap (λ (rest : ℕ). entry_steps g (entry_at s m.own rest 0) q) (L.same_rest i)
+      ∙ sym (own-steps g s m.own m.rest m.high q)
+      ∙ steps-found low-sound i gap (silent ∙ ap (λ (maps : List ℕ). silenced maps i) L.same_maps)

@@ -7,8 +7,7 @@ ghost use Rattle.line.specs.Tone.{InRange};
 ghost use Rattle.line.specs.Line.{entry_steps};
 ghost use Rattle.places.specs.Places.{tone_at, entry_noted};
 ghost use Rattle.sheet.specs.Reading.{said, reading};
-ghost use Rattle.sheet.specs.Index.{Indexed};
-ghost use Rattle.arrays.specs.Tones.{Blank, HoldsLineOf, TonesOf};
+ghost use Rattle.arrays.specs.Tones.{Blank, IndexedLow, HoldsLineOf, TonesOf};
 
 use line::Steps;
 use places::Noted;
@@ -32,7 +31,7 @@ pub fn steps_at(s: &[u8], gap: u16, noted: Noted, silenced: bool) -> Steps
 
 // The tones of the line that an index of the sheet stands for, filled from nothing: of each tone at its own noise.
 pub fn fill_arrays(s: &[u8], header: Header, index: &Index, tones: &mut [Steps; TONES])
-    requires indexed { Indexed s.now header index.now }
+    requires indexed_low { IndexedLow s.now header index.now }
     requires blank { Blank tones.old }
     ensures { HoldsLineOf (said s.now) tones.new }
 {

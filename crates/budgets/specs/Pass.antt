@@ -1,4 +1,4 @@
--- What the adding pass is given and leaves: the tones as arrays, and the list.
+-- What the adding pass is given and leaves: the tones as an array of steps, and the list.
 -- Assumes nothing.
 use Rattle.std.specs.Prelude.{List, ◌≡◌, ℕ, suc, ◌*◌, ◌≤◌, length}
 use Rattle.std.proofs.lemmas.List.Edits.{sets}

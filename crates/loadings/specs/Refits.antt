@@ -60,6 +60,6 @@ pub record RefitsAs (r : Result Refitted Refusal) (old new : List ℕ) (on : (ro
   pub numbers : refit_numbers r ≡ refit_outcome (on (length old))
   pub bytes : new ≡ after_loading (on (length old)) old
 
--- a re-fit by at most so many moves, of all tones that the arrays describe
+-- a re-fit by at most so many moves, of all tones that the array describes
 abbrev pub RefitsTones : (count most budget : ℕ) → Arrays → (start : List ℕ) → Result Refitted Refusal → (old new : List ℕ) → Type 0
 RefitsTones count most budget A start r old new = ForTones count budget A (λ T. RefitsAs r old new (refit_up_to most T budget start))

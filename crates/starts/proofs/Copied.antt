@@ -16,7 +16,7 @@ use Rattle.line.specs.Arrays.{Arrays, rest_at, power_at, RestsInRange, PowersInR
 use Rattle.line.proofs.Powers.{power-high}
 use Rattle.line.proofs.Arrays.{no-bits-stand, no-bits-power}
 use Rattle.running.specs.declared.Totals.{Totals}
-use Rattle.starts.specs.Starts.{StartsAtNone, StartsAt}
+use Rattle.starts.specs.Starts.{CopiedFrom, StartsAtNone, StartsAt}
 
 module _ (A : Arrays) (t : Table) where
   -- the power of tone j at its bits in a table
@@ -75,6 +75,13 @@ module _ {A : Arrays} {t : Table} where
     }
 
     -- all tones are copied
+    pub copied-from : i ≡ length t → CopiedFrom A t (record { bits = bits; totals = s })
+    copied-from e = record {
+      same_bits = λ j jl. C.copied.front j (omega arith);
+      total_bits = rw e at C.sum_bits;
+      total_power = rw e at C.sum_power;
+    }
+
     pub copied-stands : i ≡ length t → StartsAt A t (record { bits = bits; totals = s })
     copied-stands e T D R K = record {
       table = record { describes = D; rising = R; within = K; same_bits = λ j jl. sym (C.copied.front j (omega arith)) };

@@ -5,7 +5,7 @@ ghost use Rattle.std.specs.Prelude.{◌≡◌, ◌≤◌, length};
 ghost use Rattle.sizes.specs.Sizes.{most_tones};
 ghost use Rattle.steps.specs.Tones.{Tones};
 ghost use Rattle.line.specs.Arrays.{RestsInRange, PowersInRange};
-ghost use Rattle.starts.specs.Starts.{first_above, SameLimits, StartsAtNone, StartsAt};
+ghost use Rattle.starts.specs.Starts.{first_above, SameLimits, none_running, CopiedFrom, StartsAtNone, StartsAt};
 
 use line::Steps;
 use running::{Running, Totals};
@@ -26,7 +26,8 @@ pub fn first_above(start: &[u8], tones: &[Steps]) -> Option<usize>
 pub fn no_bits(tones: &[Steps]) -> Running
     requires count_le_most_tones { length tones.now ≤ most_tones }
     requires rests_in_range { RestsInRange (length tones.now) tones.now }
-    ensures { StartsAtNone (length tones.now) tones.now result }
+    ensures value { result ≡ none_running tones.now }
+    ensures stands { StartsAtNone (length tones.now) tones.now result }
 {
     let mut power: u64 = 0;
     for steps in tones {
@@ -44,7 +45,8 @@ pub fn from_start(start: &[u8], tones: &[Steps]) -> Running
     requires start_len_bound { length start.now ≤ most_tones }
     requires powers_in_range { PowersInRange (length start.now) tones.now start.now }
     requires tones_enough { length start.now ≤ length tones.now }
-    ensures { StartsAt tones.now start.now result }
+    ensures copied { CopiedFrom tones.now start.now result }
+    ensures stands { StartsAt tones.now start.now result }
 {
     let mut running = Running {
         bits: [0; TONES],

@@ -2,10 +2,11 @@
 use Rattle.std.proofs.lemmas.Result.{err_from_is_err_and}
 use Rattle.sheet.proofs.Uses.{read-line, refused-is}
 use Rattle.arrays.proofs.Uses.{tones-held, tones-refused}
+use Rattle.arrays.proofs.Indexed.{own-low}
 use Rattle.arrays.proofs.read_tones.Goals as goal
 
 pub fill_arrays-requires : goal.fill_arrays-requires
-fill_arrays-requires c = record { indexed = (read-line c.in_ok-header.ensures).index; blank = c.requires }
+fill_arrays-requires c = record { indexed_low = own-low (read-line c.in_ok-header.ensures).index; blank = c.requires }
 
 pub returns-in_err-header : goal.returns-in_err-header
 returns-in_err-header c =

@@ -13,13 +13,13 @@ fill-requires c =
     let L = c.requires.some_tones.loadable in
     record {
       arrays_in_range = L.in_range;
-      under = stands-under (none-stands L c.no_bits-running.ensures).table;
+      under = stands-under (none-stands L c.no_bits-running.ensures.stands).table;
       free_past = none_yet _;
       held_past = none_yet _;
     }
 
 pub loop-k-init : goal.loop-k-init
-loop-k-init c = passing-starts c.requires c.no_bits-running.ensures c.fill.ensures
+loop-k-init c = passing-starts c.requires c.no_bits-running.ensures.stands c.fill.ensures
 
 pub go_on-ended-requires-clause-runnable : goal.go_on-ended-requires-clause-runnable
 go_on-ended-requires-clause-runnable c = passing-runs c.loop-k.invariant

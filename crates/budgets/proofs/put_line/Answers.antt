@@ -1,6 +1,10 @@
 -- `budgets::put_line` meets its contract. Assumes nothing.
+use Rattle.arrays.proofs.Indexed.{own-low}
 use Rattle.budgets.proofs.Lines.{line-passable, line-passed}
 use Rattle.budgets.proofs.put_line.Goals as goal
+
+pub fill_arrays-requires-clause-indexed_low : goal.fill_arrays-requires-clause-indexed_low
+fill_arrays-requires-clause-indexed_low c = own-low c.requires.indexed
 
 pub adding_pass-requires : goal.adding_pass-requires
 adding_pass-requires c =

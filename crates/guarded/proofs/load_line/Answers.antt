@@ -3,8 +3,12 @@ use Rattle.std.proofs.lemmas.Result.{err_from_is_err_and}
 use Rattle.line.specs.Line.{tones}
 use Rattle.noises.specs.Noises.{at_high}
 use Rattle.sheet.proofs.Sound.{Bytes}
+use Rattle.arrays.proofs.Indexed.{own-low}
 use Rattle.guarded.proofs.Lines.{only, filled, low-loadable, high-loadable, both}
 use Rattle.guarded.proofs.load_line.Goals as goal
+
+pub fill_arrays-requires-clause-indexed_low : goal.fill_arrays-requires-clause-indexed_low
+fill_arrays-requires-clause-indexed_low c = own-low c.requires.indexed
 
 pub most_bits-plain-requires : goal.most_bits-plain-requires
 most_bits-plain-requires c =

@@ -32,12 +32,12 @@ from_start-from-requires-clause-powers_in_range c =
 pub run-ended-requires : goal.run-ended-requires
 run-ended-requires c =
     let L = c.requires.loadable in
-    runnable L (start-stands L _ c.if-start-tones.false c.first_above.ensures c.in_default.is c.from_start-from.ensures)
+    runnable L (start-stands L _ c.if-start-tones.false c.first_above.ensures c.in_default.is c.from_start-from.ensures.stands)
 
 pub put_table-requires-clause-powers_in_range : goal.put_table-requires-clause-powers_in_range
 put_table-requires-clause-powers_in_range c =
     let L = c.requires.loadable in
-    let S = start-stands L _ c.if-start-tones.false c.first_above.ensures c.in_default.is c.from_start-from.ensures in
+    let S = start-stands L _ c.if-start-tones.false c.first_above.ensures c.in_default.is c.from_start-from.ensures.stands in
     writable L (c.run-ended.ensures _ _ S).stands
 
 pub returns : goal.returns
@@ -45,11 +45,11 @@ returns c = λ T L.
     let m = c.if-start-tones.false in
     let h = c.if-table-tones.false in
     let found = c.first_above.ensures in
-    let E = c.run-ended.ensures T c.args.start.now (start-stands L _ m found c.in_default.is c.from_start-from.ensures) in
+    let E = c.run-ended.ensures T c.args.start.now (start-stands L _ m found c.in_default.is c.from_start-from.ensures.stands) in
     refit-done {ran = run (refit_step T c.args.budget) c.args.most c.args.start.now}
     (record {
       stands = E.stands;
       room = h;
-      written = c.put_table.ensures;
+      written = c.put_table.ensures.table;
     })
     (refit_up_to c.args.most T c.args.budget c.args.start.now) (refit-fits L _ _ h m (first-is L _ m found ∙ c.in_default.is)) E.counted

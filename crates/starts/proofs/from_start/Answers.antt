@@ -4,7 +4,7 @@ use native.Mathlib.Omega.{arith}
 use borrow.Author.Rules.{rules}
 use Rattle.std.proofs.lemmas.List.{length_push}
 use Rattle.starts.proofs.Beside.{turn, ends}
-use Rattle.starts.proofs.Copied.{none-copied, power-room, copied_more, copied-stands}
+use Rattle.starts.proofs.Copied.{none-copied, power-room, copied_more, copied-from, copied-stands}
 use Rattle.starts.proofs.from_start.Goals as goal
 
 pub loop-tone-init : goal.loop-tone-init
@@ -37,4 +37,6 @@ loop-tone-preserved c =
     (copied_more c.loop-tone.invariant _ _ t.inside (omega (arith, t.inside, c.requires.start_len_bound)) t.bits_are small power)
 
 pub returns : goal.returns
-returns c = copied-stands c.loop-tone.invariant (ends c.args.start.now c.args.tones.now _ _ c.next.new.self _ _ (cc) (cc) (cc) c.loop-tone.yielded_by c.next.ensures.steps c.requires.tones_enough c.in-None.is)
+returns c =
+    let whole = ends c.args.start.now c.args.tones.now _ _ c.next.new.self _ _ (cc) (cc) (cc) c.loop-tone.yielded_by c.next.ensures.steps c.requires.tones_enough c.in-None.is in
+    record { copied = copied-from c.loop-tone.invariant whole; stands = copied-stands c.loop-tone.invariant whole }

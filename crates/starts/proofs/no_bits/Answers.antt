@@ -23,4 +23,5 @@ loop-steps-preserved c = rw add-one (omega (arith, c.loop-steps.invariant))
 pub returns : goal.returns
 returns c =
     let all : c.loop-steps.steps-index ≡ length c.args.tones.now = omega arith in
-    none-starts (rw all at c.loop-steps.invariant)
+    let sum_is = rw all at c.loop-steps.invariant in
+    record { value = rw sum_is refl; stands = none-starts sum_is }

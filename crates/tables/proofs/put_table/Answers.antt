@@ -1,6 +1,7 @@
 -- `tables::put_table` meets its contract. Between the turns the entries of the tones below the index are written. Assumes nothing.
 use mathlib.Core.Path.{◌≡◌}
 use native.Mathlib.Omega.{arith}
+use lib.ListN.{length}
 use Rattle.lists.proofs.Joined.{written_none, written_next}
 use Rattle.tables.specs.Tables.{tone_entry}
 use Rattle.tables.proofs.Entries.{length-entry, plain, plain-table-bytes}
@@ -31,6 +32,11 @@ loop-tone-preserved c =
     written_next (tone_entry T t) s.out.now 0 c.loop-tone.invariant (omega (arith, length-entry T t c.loop-tone.tone)) stored
 
 pub returns : goal.returns
-returns c = λ T t S.
-    let e : c.loop-tone.tone ≡ T.count = omega (arith, S.describes.same_count) in
-    rw (e, plain-table-bytes S) at c.loop-tone.invariant.stores
+returns c = record {
+  bytes =
+      let e : c.loop-tone.tone ≡ length c.args.tones.now = omega arith in
+      rw e at c.loop-tone.invariant.stores;
+  table = λ T t S.
+      let e : c.loop-tone.tone ≡ T.count = omega (arith, S.describes.same_count) in
+      rw (e, plain-table-bytes S) at c.loop-tone.invariant.stores;
+}
