@@ -11,14 +11,13 @@ use Rattle.bigendian.specs.Number.{number}
 use Rattle.gaps.specs.Gap.{parts}
 use Rattle.refusals.specs.declared.Refusal.{Refusal}
 use Rattle.refusals.specs.declared.Refusal.TheVariants.{ToneBeyondLine, ToneCannotTake, RestOutOfRange}
-use Rattle.places.specs.declared.Noted.{Noted}
-use Rattle.places.specs.Places.{entry_noted}
+use Rattle.places.specs.Places.{entry_at}
 use Rattle.noises.specs.Noises.{entry_has_noise, entry_low}
 use Rattle.rows.specs.declared.Header.{Header}
 use Rattle.rows.specs.declared.Command.{Command}
 use Rattle.rows.specs.declared.Command.TheVariants.{Rest, High}
 use Rattle.rows.specs.Rows.{is_rest_of, rest, high, row_at}
-use Rattle.rows.specs.Codes.{known_noted}
+use Rattle.rows.specs.Codes.{known_at}
 use Rattle.rows.proofs.Judging.{out_of_range, rest-operands, high-operands, rest-taken-at, high-taken-at}
 use Rattle.addedrows.specs.Adding.{takes_at, adding_to}
 
@@ -62,22 +61,22 @@ taken-there zero had h = absurd (true≢false (sym h))
 taken-there (suc p) had h = omega arith
 
 -- both commands: refusals 5 and 14, and then the operand after the tone's number
-module _ (h : Header) (s : List ℕ) (at w : ℕ) (n : Noted) where
+module _ (h : Header) (s : List ℕ) (at w place rested widened : ℕ) where
   abbrev pub tone_of : ℕ
   tone_of = number s (at + 1) w
 
-  pub rest-adding : row_at h (known_noted s n) s at (rest w)
-      ≡ or_refused (adding_to h.size tone_of (at + 1) (takes_at n.own n.rest))
-      (cond (is_rest_of (parts h.gap) (entry_noted s n) (number s (at + 1 + w) 4)) (Ok (Rest tone_of)) (Err (RestOutOfRange (at + 1 + w))))
+  pub rest-adding : row_at h (known_at s place rested widened) s at (rest w)
+      ≡ or_refused (adding_to h.size tone_of (at + 1) (takes_at place rested))
+      (cond (is_rest_of (parts h.gap) (entry_at s place rested widened) (number s (at + 1 + w) 4)) (Ok (Rest tone_of)) (Err (RestOutOfRange (at + 1 + w))))
   rest-adding =
-      rest-operands h (known_noted s n) s at w
-      ∙ rw (rest-taken-at s n.own n.rest n.high) (adding-judged h.size tone_of (at + 1) (takes_at n.own n.rest) _)
+      rest-operands h (known_at s place rested widened) s at w
+      ∙ rw (rest-taken-at s place rested widened) (adding-judged h.size tone_of (at + 1) (takes_at place rested) _)
 
-  pub high-adding : row_at h (known_noted s n) s at (high w)
-      ≡ or_refused (adding_to h.size tone_of (at + 1) (takes_at n.own n.high))
-      (cond (entry_has_noise (entry_noted s n))
-      (cond (ltb (number s (at + 1 + w) 2) (entry_low (entry_noted s n))) (out_of_range (at + 1 + w)) (Ok (High tone_of)))
+  pub high-adding : row_at h (known_at s place rested widened) s at (high w)
+      ≡ or_refused (adding_to h.size tone_of (at + 1) (takes_at place widened))
+      (cond (entry_has_noise (entry_at s place rested widened))
+      (cond (ltb (number s (at + 1 + w) 2) (entry_low (entry_at s place rested widened))) (out_of_range (at + 1 + w)) (Ok (High tone_of)))
       (out_of_range (at + 1)))
   high-adding =
-      high-operands h (known_noted s n) s at w
-      ∙ rw (high-taken-at s n.own n.rest n.high) (adding-judged h.size tone_of (at + 1) (takes_at n.own n.high) _)
+      high-operands h (known_at s place rested widened) s at w
+      ∙ rw (high-taken-at s place rested widened) (adding-judged h.size tone_of (at + 1) (takes_at place widened) _)

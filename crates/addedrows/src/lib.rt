@@ -1,7 +1,7 @@
 // The commands that add to a described tone, all of whose bytes are there: its rest and its high noise. Document 02, W6, W8 and W9.
 #![tactic(auto)]
 
-ghost use Rattle.std.specs.Prelude.{◌≡◌, ◌+◌, ◌≤◌, ◌<◌, length};
+ghost use Rattle.std.specs.Prelude.{◌≡◌, ℕ, ◌+◌, ◌≤◌, ◌<◌, length};
 ghost use Rattle.sizes.specs.Sizes.{longest_sheet};
 ghost use Rattle.bigendian.specs.Number.{number};
 ghost use Rattle.gaps.specs.Gap.{parts};
@@ -9,7 +9,7 @@ ghost use Rattle.line.specs.Tone.{InRange};
 ghost use Rattle.addresses.specs.Addresses.{number_width};
 ghost use Rattle.places.specs.Places.{tone_at};
 ghost use Rattle.rows.specs.Rows.{width, row_at};
-ghost use Rattle.rows.specs.Codes.{known_noted, rest_row, high_row};
+ghost use Rattle.rows.specs.Codes.{known_at, rest_row, high_row};
 ghost use Rattle.addedrows.specs.Adding.{takes_at, adding_to};
 
 use places::Noted;
@@ -44,7 +44,7 @@ pub fn rest_command(
     requires code_in_bounds { at + 1 + width (rest_row code).operands ≤ length s.now }
     requires s_len_bound { length s.now ≤ longest_sheet }
     requires in_range { 0 < noted.own → InRange (parts header.gap) (tone_at s.now noted.own) }
-    ensures { result ≡ row_at header (known_noted s.now noted) s.now at (rest_row code) }
+    ensures { (widened : ℕ) → result ≡ row_at header (known_at s.now noted.own noted.rest widened) s.now at (rest_row code) }
 {
     let tone = judge_tone(s, at, code, header.size, noted.own, noted.rest)?;
     let carried = at + 1 + addresses::number_width(code);
@@ -65,7 +65,7 @@ pub fn high_command(
 ) -> Result<Command, Refusal>
     requires code_in_bounds { at + 1 + width (high_row code).operands ≤ length s.now }
     requires s_len_bound { length s.now ≤ longest_sheet }
-    ensures { result ≡ row_at header (known_noted s.now noted) s.now at (high_row code) }
+    ensures { (rested : ℕ) → result ≡ row_at header (known_at s.now noted.own rested noted.high) s.now at (high_row code) }
 {
     let tone = judge_tone(s, at, code, header.size, noted.own, noted.high)?;
     if !noises::has_noise(s, noted.own) {

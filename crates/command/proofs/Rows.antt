@@ -14,7 +14,7 @@ use Rattle.std.specs.Prelude.{Err}
 use Rattle.sizes.specs.Sizes.{longest_sheet}
 use Rattle.refusals.specs.declared.Refusal.TheVariants.{SheetTooLong, SheetEnds, CommandNotAllowed}
 use Rattle.rows.specs.declared.Header.{Header}
-use Rattle.rows.specs.Rows.{Known, Row, pair, single, end, levels, ratio, rest, high, width, with_code, row_at, and_next, whole_row}
+use Rattle.rows.specs.Rows.{Known, Row, pair, single, end, levels, ratio, rest, high, width, with_code, row_at, whole_row}
 use Rattle.rows.specs.Codes.{silence_row, all_rows, row_of, command_bytes}
 use Rattle.command.specs.Format.{is_row, today, decoded, command_at}
 use Rattle.command.proofs.Walk.{Each, Found, found}
@@ -145,7 +145,7 @@ row-found stage code h = by (with_code (today.rows stage) code) (found-today Own
 
 -- Refusal 1 comes first.
 module _ (h : Header) (known : Known) (s : List ℕ) (at stage : ℕ) where
-  pub command-too-long : longest_sheet < length s → command_at today h known s at stage ≡ Err SheetTooLong
+  pub command-too-long : longest_sheet < length s → command_at today h known s at stage ≡ record { command = Err SheetTooLong; next = at }
   unfolding command_at
   command-too-long long = rw (lt-ltb longest_sheet (length s) long)
 
@@ -155,7 +155,8 @@ module _ (h : Header) (known : Known) (s : List ℕ) (at stage : ℕ) where
 
 -- The command at a place where its byte stands.
 module _ (h : Header) (known : Known) (s : List ℕ) (at stage : ℕ) (inside : at < length s) where
-  pub no_row : is_row (with_code (today.rows stage) (get_or s at 0)) ≡ false → decoded today h known s at stage ≡ Err (CommandNotAllowed at)
+  pub no_row : is_row (with_code (today.rows stage) (get_or s at 0)) ≡ false
+      → decoded today h known s at stage ≡ record { command = Err (CommandNotAllowed at); next = at }
   unfolding decoded
   no_row z = simp (lt-leb (length s) at inside, none_found (with_code (today.rows stage) (get_or s at 0)) z)
 
@@ -169,10 +170,10 @@ module _ (h : Header) (known : Known) (s : List ℕ) (at code : ℕ) {bytes : �
   next-is : at + 1 + width (row_of code).operands ≡ at + bytes
   next-is = omega arith
 
-  pub row_cut : length s < at + bytes → whole_row h known s at (row_of code) ≡ Err (SheetEnds (length s))
+  pub row_cut : length s < at + bytes → whole_row h known s at (row_of code) ≡ record { command = Err (SheetEnds (length s)); next = at }
   unfolding row_at
   row_cut l = rw (next-is, lt-ltb (length s) (at + bytes) l)
 
-  pub row-whole : at + bytes ≤ length s → whole_row h known s at (row_of code) ≡ and_next (at + bytes) (row_at h known s at (row_of code))
+  pub row-whole : at + bytes ≤ length s → whole_row h known s at (row_of code) ≡ record { command = row_at h known s at (row_of code); next = at + bytes }
   unfolding row_at
   row-whole l = rw (next-is, le-ltb (length s) (at + bytes) l)

@@ -97,10 +97,14 @@ Said h known s at stage next (Rest i) = RestsTone h known s at stage next i
 Said h known s at stage next (High i) = WidensTone h known s at stage next i
 Said h known s at stage next (Silence word map) = Silences h s at stage next word map
 
--- the same of what is decoded; nothing of a refusal
-abbrev pub SaidOf : Header → (known : Known) → List ℕ → (at stage : ℕ) → Result Decoded Refusal → Type 0
-SaidOf h known s at stage (Ok d) = Said h known s at stage d.next d.command
-SaidOf h known s at stage (Err q) = Unit {0}
+-- nothing of a refusal
+abbrev pub SaidUnless : Header → (known : Known) → List ℕ → (at stage next : ℕ) → Result Command Refusal → Type 0
+SaidUnless h known s at stage next (Ok c) = Said h known s at stage next c
+SaidUnless h known s at stage next (Err q) = Unit {0}
+
+-- the same of what is decoded
+abbrev pub SaidOf : Header → (known : Known) → List ℕ → (at stage : ℕ) → Decoded → Type 0
+SaidOf h known s at stage d = SaidUnless h known s at stage d.next d.command
 
 -- a row that makes a new header
 abbrev IsHead : Command → Type 0
@@ -239,4 +243,4 @@ pub command-said : (h : Header) (known : Known) (s : List ℕ) (at stage : ℕ) 
 unfolding command_at
 command-said h known s at stage =
     by-test (SaidOf h known s at stage) (is_too_long today s) (λ e. tt)
-    (λ e. by_rows today h known s at stage (SaidOf h known s at stage) (λ q. tt) (all_said h known s at (ltb-false _ _ e) stage))
+    (λ e. by_rows today h known s at stage (SaidOf h known s at stage) (λ q next. tt) (all_said h known s at (ltb-false _ _ e) stage))

@@ -17,7 +17,7 @@ use Rattle.refusals.specs.declared.Refusal.{Refusal}
 use Rattle.rows.specs.declared.Header.{Header}
 use Rattle.rows.specs.declared.Command.{Command}
 use Rattle.rows.specs.declared.Decoded.{Decoded}
-use Rattle.rows.specs.Rows.{Known, Seen, Operand, Row, width, with_code, judged, operands_from, row_at, and_next}
+use Rattle.rows.specs.Rows.{Known, Seen, Operand, Row, width, with_code, judged, operands_from, row_at}
 use Rattle.command.specs.Format.{Format, decoded_row, decoded}
 
 -- ---- the row that a command byte finds
@@ -96,24 +96,24 @@ in_within v low high r q e =
 -- ---- the command at a place
 
 -- what a row does, where the command is its own, its bytes are there and its operands pass
-abbrev pub Does : (Result Decoded Refusal → Type 0) → Header → (known : Known) → List ℕ → (at : ℕ) → Row → Type 0
+abbrev pub Does : (Decoded → Type 0) → Header → (known : Known) → List ℕ → (at : ℕ) → Row → Type 0
 Does P h known s at r =
     get_or s at 0 ≡ r.code → at + 1 + width r.operands ≤ length s → Passed (seen_at h known) s (at + 1) r.operands
-    → P (Ok (record { command = r.does h (values [] s (at + 1) r.operands); next = at + 1 + width r.operands }))
+    → P (record { command = Ok (r.does h (values [] s (at + 1) r.operands)); next = at + 1 + width r.operands })
 
 -- What holds of a refusal, and of what each row of a stage does, holds of the command that is decoded there.
-pub by_rows : (F : Format) (h : Header) (known : Known) (s : List ℕ) (at stage : ℕ) (P : Result Decoded Refusal → Type 0)
-    → ((q : Refusal) → P (Err q))
+pub by_rows : (F : Format) (h : Header) (known : Known) (s : List ℕ) (at stage : ℕ) (P : Decoded → Type 0)
+    → ((q : Refusal) (next : ℕ) → P (record { command = Err q; next = next }))
     → Each (Does P h known s at) (F.rows stage)
     → P (decoded F h known s at stage)
 unfolding decoded row_at
 by_rows F h known s at stage P turned each =
-    by-test P (leb (length s) at) (λ e. turned _) (λ e. by-found (with_code (F.rows stage) (get_or s at 0)) (found _ (get_or s at 0) (F.rows stage) each))
+    by-test P (leb (length s) at) (λ e. turned _ at) (λ e. by-found (with_code (F.rows stage) (get_or s at 0)) (found _ (get_or s at 0) (F.rows stage) each))
   where
     by-found : (o : Option Row) → Found (Does P h known s at) (get_or s at 0) o → P (decoded_row h known s at o)
-    by-found none f = turned _
+    by-found none f = turned _ at
     by-found (some r) f =
         let next = at + 1 + width r.operands in
-        by-test P (ltb (length s) next) (λ e. turned _)
-        (λ e. by-operands (λ c. P (and_next next c)) turned (seen_at h known) s (at + 1) r.operands (r.does h)
+        by-test P (ltb (length s) next) (λ e. turned _ at)
+        (λ e. by-operands (λ c. P (record { command = c; next = next })) (λ q. turned q next) (seen_at h known) s (at + 1) r.operands (r.does h)
         (f.1 f.0 (ltb-false _ _ e)))

@@ -1,11 +1,10 @@
 -- What a format allows, and the command at a place of a sheet. Document 01, 'The line sheet' and 'Why a sheet is turned down'; document 02,
 -- W1, W5, W6, W8 and W9.
 -- Assumes nothing.
-use Rattle.std.specs.Prelude.{Bool, true, false, cond, List, ◌++◌, ◌≡◌, ℕ, ◌≤◌, leb, ltb, length, get_or, is_ok, Result, Err}
+use Rattle.std.specs.Prelude.{Bool, true, false, cond, List, ◌++◌, ◌≡◌, ℕ, ◌≤◌, leb, ltb, length, get_or, is_ok, Err}
 use Rattle.std.proofs.Math.Option.{Option, none, some}
 use Rattle.sizes.specs.Sizes.{most_tones, most_words, words_of, longest_sheet}
 use Rattle.bigendian.specs.Number.{byte_base}
-use Rattle.refusals.specs.declared.Refusal.{Refusal}
 use Rattle.refusals.specs.declared.Refusal.TheVariants.{SheetTooLong, SheetEnds, CommandNotAllowed}
 use Rattle.rows.specs.declared.Header.{Header}
 use Rattle.rows.specs.declared.Decoded.{Decoded}
@@ -75,19 +74,21 @@ is_too_long F s = ltb F.bytes (length s)
 
 -- The command at a place of a sheet: refusal 2 where the sheet ends there, 3 where its byte is not allowed; else as its row has it. With it
 -- comes the place after the command.
-abbrev pub decoded_row : Header → (known : Known) → List ℕ → (at : ℕ) → Option Row → Result Decoded Refusal
-decoded_row h known s at none = Err (CommandNotAllowed at)
+abbrev pub decoded_row : Header → (known : Known) → List ℕ → (at : ℕ) → Option Row → Decoded
+decoded_row h known s at none = record { command = Err (CommandNotAllowed at); next = at }
 decoded_row h known s at (some r) = whole_row h known s at r
 
-unfoldable pub decoded : Format → Header → (known : Known) → List ℕ → (at stage : ℕ) → Result Decoded Refusal
+unfoldable pub decoded : Format → Header → (known : Known) → List ℕ → (at stage : ℕ) → Decoded
 unfolding row_at
 decoded F h known s at stage =
-    cond (leb (length s) at) (Err (SheetEnds (length s))) (decoded_row h known s at (with_code (F.rows stage) (get_or s at 0)))
+    cond (leb (length s) at) (record { command = Err (SheetEnds (length s)); next = at })
+    (decoded_row h known s at (with_code (F.rows stage) (get_or s at 0)))
 
 -- The command at a place of any bytes: of a sheet that is too long no command is read.
-unfoldable pub command_at : Format → Header → (known : Known) → List ℕ → (at stage : ℕ) → Result Decoded Refusal
+unfoldable pub command_at : Format → Header → (known : Known) → List ℕ → (at stage : ℕ) → Decoded
 unfolding decoded
-command_at F h known s at stage = cond (is_too_long F s) (Err SheetTooLong) (decoded F h known s at stage)
+command_at F h known s at stage =
+    cond (is_too_long F s) (record { command = Err SheetTooLong; next = at }) (decoded F h known s at stage)
 
 -- ---- one format within another
 

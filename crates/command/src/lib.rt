@@ -60,8 +60,9 @@ fn operands(s: &[u8], at: usize, code: u8, header: Header, noted: Noted) -> Resu
     }
 }
 
-// What the command of a byte does, and the place after it: 2 where its bytes are not all there, and then its operands from left to right.
-fn row_at(s: &[u8], at: usize, code: u8, header: Header, noted: Noted) -> Result<Decoded, Refusal>
+// What the command of a byte does, or why it is refused, and the place after it: 2 where its bytes are not all there, and then its operands
+// from left to right.
+fn row_at(s: &[u8], at: usize, code: u8, header: Header, noted: Noted) -> Decoded
     requires at_in_bounds { at ≤ length s.now }
     requires s_len_bound { length s.now ≤ longest_sheet }
     requires entry_in_range { EntryInRange (parts header.gap) (entry_noted s.now noted) }
@@ -69,36 +70,41 @@ fn row_at(s: &[u8], at: usize, code: u8, header: Header, noted: Noted) -> Result
 {
     let bytes = rows::bytes_of(code);
     if s.len() - at < bytes {
-        return Err(Refusal::SheetEnds(s.len() as u16));
+        return Decoded {
+            command: Err(Refusal::SheetEnds(s.len() as u16)),
+            next: at,
+        };
     }
-    let command = operands(s, at, code, header, noted)?;
-    Ok(Decoded {
-        command,
+    Decoded {
+        command: operands(s, at, code, header, noted),
         next: at + bytes,
-    })
+    }
 }
 
 // The command at a place, and the place after it, with the header so far and what is noted of the tone that the command addresses. What was
 // accepted of that tone is in range, since a rest is judged by it.
-pub fn decode(
-    s: &[u8],
-    at: usize,
-    stage: u8,
-    header: Header,
-    noted: Noted,
-) -> Result<Decoded, Refusal>
+pub fn decode(s: &[u8], at: usize, stage: u8, header: Header, noted: Noted) -> Decoded
     requires { EntryInRange (parts header.gap) (entry_noted s.now noted) }
     ensures { result ≡ command_at today header (known_noted s.now noted) s.now at stage }
 {
     if SHEET_BYTES < s.len() {
-        return Err(Refusal::SheetTooLong);
+        return Decoded {
+            command: Err(Refusal::SheetTooLong),
+            next: at,
+        };
     }
     if s.len() <= at {
-        return Err(Refusal::SheetEnds(s.len() as u16));
+        return Decoded {
+            command: Err(Refusal::SheetEnds(s.len() as u16)),
+            next: at,
+        };
     }
     let code = s[at];
     if !is_allowed(stage, code) {
-        return Err(Refusal::CommandNotAllowed(at as u16));
+        return Decoded {
+            command: Err(Refusal::CommandNotAllowed(at as u16)),
+            next: at,
+        };
     }
     row_at(s, at, code, header, noted)
 }

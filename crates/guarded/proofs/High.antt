@@ -50,10 +50,10 @@ module _ {s : List ℕ} {h : Header} {index : Index} (x : Indexed s h index) (i 
   own-noted : steps_at x.line i ≡ entry_steps (parts h.gap) (entry_noted s n) (silenced index.maps i)
   own-noted = rw (x.indexes.entry i, silenced-here x.indexes i, gap_is x)
 
-  raised-none : n.high ≡ 0 → steps_at (at_high x.line) i ≡ steps_at x.line i
+  pub raised-none : n.high ≡ 0 → steps_at (at_high x.line) i ≡ steps_at x.line i
   raised-none none = at-noted ∙ rw (none, own-entry s n.own n.rest) (rw none at (sym own-noted))
 
-  raised-silent : silenced index.maps i ≡ true → steps_at (at_high x.line) i ≡ steps_at x.line i
+  pub raised-silent : silenced index.maps i ≡ true → steps_at (at_high x.line) i ≡ steps_at x.line i
   raised-silent q =
       let high : steps_at (at_high x.line) i ≡ no_steps = at-noted ∙ rw q in
       let low : steps_at x.line i ≡ no_steps = own-noted ∙ rw q in
@@ -67,7 +67,7 @@ module _ {s : List ℕ} {h : Header} {index : Index} (x : Indexed s h index) (i 
 
   module _ (there : 0 < n.high) where
     -- a tone that has a high noise is described
-    placed : 0 < n.own
+    pub placed : 0 < n.own
     placed = by (dec_lt 0 n.own)
       where
         by : Dec (0 < n.own) → 0 < n.own
@@ -81,7 +81,7 @@ module _ {s : List ℕ} {h : Header} {index : Index} (x : Indexed s h index) (i 
     high-entry = rw (entry-there s n.rest n.high n.own placed, high-there s (tone_at s n.own) n.high there)
 
     -- the rest is what it was
-    raised-tone : silenced index.maps i ≡ false
+    pub raised-tone : silenced index.maps i ≡ false
         → steps_at (at_high x.line) i ≡ steps_of (parts h.gap) (with_noise (high_at s n.high) (tone_at s n.own)) (steps_at x.line i).rest
     raised-tone q =
         let own : (steps_at x.line i).rest ≡ rest_from s n.rest = ap (λ (y : Steps). y.rest) own-noted ∙ rw (entry-there s n.rest n.high n.own placed, q) in

@@ -53,10 +53,10 @@ limit-same g e true = refl
 limit-same g undescribed false = refl
 limit-same g (described t a) false = refl
 
--- an array that has the steps of a line's N tones: its ranges, and that it describes the tones
-module _ (l : Line) (I : LineInRange l) (A : Arrays) (agree : (i : ℕ) → i < l.size → steps_in A i ≡ steps_at l i) where
-  agreeing-in-range : ArraysInRange l.size A
-  agreeing-in-range = record {
+-- the array of a line, whole: its ranges, and that it describes the tones
+module _ (l : Line) (I : LineInRange l) (A : Arrays) (h : ArraysOf l A) where
+  pub line-arrays-in-range : ArraysInRange l.size A
+  line-arrays-in-range = record {
     count_high = I.size_high;
     steps_rise = λ i il. (at i il).steps_rise;
     cost_high = λ i il. (at i il).cost_high;
@@ -65,34 +65,50 @@ module _ (l : Line) (I : LineInRange l) (A : Arrays) (agree : (i : ℕ) → i < 
   }
     where
       at : (i : ℕ) → i < l.size → Small (steps_in A i)
-      at i il = subst Small (sym (agree i il)) (small (gap_of l) (entry_of l i) (silenced l.maps i) (I.entries i il))
-
-  agreeing-describes : Describes l.size A (tones l)
-  agreeing-describes = record {
-    same_count = refl;
-    same_limit = λ i il. sym (ap (λ (s : Steps). s.limit.bits) (agree i il) ∙ ap (λ (x : Limit). x.bits) (limit-same (gap_of l) (entry_of l i) (silenced l.maps i)));
-    same_power = λ i b il bl. line-power l I i b bl ∙ ap (λ (s : Steps). power_in s.cost s.doublings s.rest b) (sym (agree i il));
-  }
-
--- the array of a line, and the front of it that has its N tones
-module _ (l : Line) (I : LineInRange l) (A : Arrays) (h : ArraysOf l A) where
-  pub line-arrays-in-range : ArraysInRange l.size A
-  line-arrays-in-range = agreeing-in-range l I A (λ i il. h.agree i)
+      at i il = subst Small (sym (h.agree i)) (small (gap_of l) (entry_of l i) (silenced l.maps i) (I.entries i il))
 
   pub line-describes : Describes l.size A (tones l)
-  line-describes = agreeing-describes l I A (λ i il. h.agree i)
+  line-describes = record {
+    same_count = refl;
+    same_limit = λ i il. sym (ap (λ (s : Steps). s.limit.bits) (h.agree i) ∙ ap (λ (x : Limit). x.bits) (limit-same (gap_of l) (entry_of l i) (silenced l.maps i)));
+    same_power = λ i b il bl. line-power l I i b bl ∙ ap (λ (s : Steps). power_in s.cost s.doublings s.rest b) (sym (h.agree i));
+  }
+
+-- the front of it, which has its N tones and which the runs go by
+module _ (l : Line) (I : LineInRange l) (A : Arrays) (h : ArraysOf l A) where
+  whole : ArraysInRange l.size A
+  whole = line-arrays-in-range l I A h
+
+  tells : Describes l.size A (tones l)
+  tells = line-describes l I A h
+
+  same-steps : (i : ℕ) → i < l.size → steps_in (take l.size A) i ≡ steps_in A i
+  same-steps i il = get_or-take l.size A i no_steps il
 
   pub front-sized : length (take l.size A) ≡ l.size
   front-sized = length-take-le l.size A (omega (arith, I.size_high, h.sized))
 
-  agree : (i : ℕ) → i < l.size → steps_in (take l.size A) i ≡ steps_at l i
-  agree i il = get_or-take l.size A i no_steps il ∙ h.agree i
-
   pub front-in-range : ArraysInRange l.size (take l.size A)
-  front-in-range = agreeing-in-range l I (take l.size A) agree
+  front-in-range = record {
+    count_high = whole.count_high;
+    steps_rise = λ i il. (at i il).steps_rise;
+    cost_high = λ i il. (at i il).cost_high;
+    shift_high = λ i il. (at i il).shift_high;
+    rest_high = λ i il. (at i il).rest_high;
+  }
+    where
+      here : (i : ℕ) → i < l.size → Small (steps_in A i)
+      here i il = record { steps_rise = whole.steps_rise i il; cost_high = whole.cost_high i il; shift_high = whole.shift_high i il; rest_high = whole.rest_high i il }
+
+      at : (i : ℕ) → i < l.size → Small (steps_in (take l.size A) i)
+      at i il = subst Small (sym (same-steps i il)) (here i il)
 
   pub front-describes : Describes l.size (take l.size A) (tones l)
-  front-describes = agreeing-describes l I (take l.size A) agree
+  front-describes = record {
+    same_count = tells.same_count;
+    same_limit = λ i il. tells.same_limit i il ∙ ap (λ (s : Steps). s.limit.bits) (sym (same-steps i il));
+    same_power = λ i b il bl. tells.same_power i b il bl ∙ ap (λ (s : Steps). power_in s.cost s.doublings s.rest b) (sym (same-steps i il));
+  }
 
 -- ---- any arrays that describe tones
 

@@ -1,6 +1,6 @@
 -- The search for a limit, turn by turn: what is known between the turns, the power that a turn tries, and what is answered where it stops.
 -- Assumes nothing.
-use mathlib.Core.Path.{◌≡◌, sym, ap}
+use mathlib.Core.Path.{◌≡◌, sym, ap, ◌∙◌}
 use Prim.Native.Nat.{ℕ, suc, ◌+◌, ◌-◌, ◌*◌, ◌^◌, ◌%◌, ◌≤◌, ◌<◌}
 use native.Mathlib.Nat.{mul-le-mul}
 use native.Mathlib.Numerals.{add-one}
@@ -15,7 +15,7 @@ use Rattle.line.specs.Tone.{bounds_of, doublings, BoundsInRange, Cost, power, li
 use Rattle.line.specs.Tries.{tries}
 use Rattle.line.specs.Arrays.{power_of}
 use Rattle.line.proofs.Growth.{doublings-high, power-is, power-next}
-use Rattle.line.proofs.Limits.{Allowed, mask-stops, mask-tries, cap-stops, cap-tries}
+use Rattle.line.proofs.Limits.{cap_high, Allowed, mask-stops, mask-tries, cap-stops, cap-tries}
 
 -- what the search goes by: the bounds n and the doublings d of tone t, and its cost w
 pub record Searched (t : Tone) (w : ℕ) (n : Bounds) (d : ℕ) : Type 0 where
@@ -25,10 +25,11 @@ pub record Searched (t : Tone) (w : ℕ) (n : Bounds) (d : ℕ) : Type 0 where
   pub shift : d ≡ doublings t
 
 -- between the turns: b bits are within the cap, and their power p within the mask; as many powers were tried
-pub record Between (w : ℕ) (n : Bounds) (d b p : ℕ) : Type 0 where
+pub record Between (w : ℕ) (n : Bounds) (d b tried p : ℕ) : Type 0 where
   pub at_most : b ≤ n.cap
   pub power_is : p ≡ power_of w d b
   pub under : p ≤ n.mask
+  pub counted : tried ≡ b
 
 module _ {t : Tone} {w : ℕ} {n : Bounds} {d : ℕ} (S : Searched t w n d) where
   cap-is : n.cap ≡ (bounds_of t).cap
@@ -43,7 +44,11 @@ module _ {t : Tone} {w : ℕ} {n : Bounds} {d : ℕ} (S : Searched t w n d) wher
   pub shift-at-most-2 : d ≤ 2
   shift-at-most-2 = omega (arith, S.shift, doublings-high t.kind)
 
-  module _ {b p : ℕ} (B : Between w n d b p) where
+  module _ {b tried p : ℕ} (B : Between w n d b tried p) where
+    -- one bit more is a number of 8 bits
+    pub one_more : b + 1 < 2 ^ 8
+    one_more = omega (arith, B.at_most, cap-is, cap_high S.in_range)
+
     power-high : p ≤ 2 ^ 47
     power-high = omega (arith, B.under, mask_is, S.in_range.mask_high)
 
@@ -71,14 +76,14 @@ module _ {t : Tone} {w : ℕ} {n : Bounds} {d : ℕ} (S : Searched t w n d) wher
     }
 
     pub mask-ends : b < n.cap → n.mask < power_of w d (b + 1)
-        → (◌≡◌ {A = Limit} (record { bits = b; by = Mask }) (limit_of t w)) × (b + 1 ≡ tries t w)
+        → (◌≡◌ {A = Limit} (record { bits = b; by = Mask }) (limit_of t w)) × (tried + 1 ≡ tries t w)
     mask-ends below over =
         let lower : b < (bounds_of t).cap = omega (arith, below, cap-is) in
         let above : (bounds_of t).mask < power t w (suc b) = omega (arith, over, mask_is, power_in (suc b), ap (power_of w d) (add-one b)) in
-        (mask-stops t w allowed lower above, omega (arith, mask-tries t w allowed lower above))
+        (mask-stops t w allowed lower above, omega (arith, B.counted, mask-tries t w allowed lower above))
 
-    pub cap-ends : n.cap ≤ b → (◌≡◌ {A = Limit} (record { bits = n.cap; by = Cap }) (limit_of t w)) × (n.cap ≡ tries t w)
+    pub cap-ends : n.cap ≤ b → (◌≡◌ {A = Limit} (record { bits = n.cap; by = Cap }) (limit_of t w)) × (tried ≡ tries t w)
     cap-ends full =
         let at_cap : (bounds_of t).cap ≤ b = omega (arith, full, cap-is) in
         let same : n.cap ≡ b = omega (arith, full, B.at_most) in
-        rw same (cap-stops t w allowed at_cap, cap-tries t w allowed at_cap)
+        (rw same (cap-stops t w allowed at_cap), B.counted ∙ cap-tries t w allowed at_cap)

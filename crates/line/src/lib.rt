@@ -75,10 +75,10 @@ struct Tried {
 // `doublings` × b times, less the cost; the power of no bits is the rest.
 #[derive(Clone, Copy)]
 pub struct Steps {
-    pub limit: Limit,
     pub cost: u32,
-    pub doublings: u8,
     pub rest: u32,
+    pub limit: Limit,
+    pub doublings: u8,
 }
 
 impl Steps {
@@ -188,16 +188,18 @@ fn limit_of(tone: Tone, cost: u32) -> Tried
     let cap = bounds.cap;
     let shift = doublings(tone);
     let first = power_of(cost, shift, 1);
+    let mut tries: u8 = 0;
     let mut power: u64 = 0;
     for bits in 0..cap {
         power = (power << shift as u32) + first;
+        tries += 1;
         if bounds.mask < power {
             return Tried {
                 limit: Limit {
                     bits,
                     by: SetBy::Mask,
                 },
-                tries: bits + 1,
+                tries,
             };
         }
     }
@@ -206,7 +208,7 @@ fn limit_of(tone: Tone, cost: u32) -> Tried
             bits: cap,
             by: SetBy::Cap,
         },
-        tries: cap,
+        tries,
     }
 }
 

@@ -288,11 +288,7 @@ row_at h known s at r = operands_from (record { header = h; known = known; befor
 
 -- 'Within a command, 2 comes before any operand is judged': refusal 2 where the rest of a row's operands is missing, else what its command
 -- does. With it comes the place after the command.
-abbrev pub and_next : (next : ℕ) → Result Command Refusal → Result Decoded Refusal
-and_next next (Ok c) = Ok (record { command = c; next = next })
-and_next next (Err r) = Err r
-
-abbrev pub whole_row : Header → (known : Known) → List ℕ → (at : ℕ) → Row → Result Decoded Refusal
+abbrev pub whole_row : Header → (known : Known) → List ℕ → (at : ℕ) → Row → Decoded
 whole_row h known s at r =
-    cond (ltb (length s) (at + 1 + width r.operands)) (Err (SheetEnds (length s)))
-    (and_next (at + 1 + width r.operands) (row_at h known s at r))
+    cond (ltb (length s) (at + 1 + width r.operands)) (record { command = Err (SheetEnds (length s)); next = at })
+    (record { command = row_at h known s at r; next = at + 1 + width r.operands })

@@ -37,10 +37,10 @@ pub enum Command {
     Silence(u8, u32),
 }
 
-// A command, and the place after it.
+// A command or why it is refused, and the place after it.
 #[derive(Clone, Copy)]
 pub struct Decoded {
-    pub command: Command,
+    pub command: Result<Command, Refusal>,
     pub next: usize,
 }
 

@@ -1,9 +1,9 @@
 -- A sheet that a format accepts is accepted by every larger format, and means the same line.
 -- Assumes nothing.
-use mathlib.Core.Bool.{Bool, true, false, cond}
+use mathlib.Core.Bool.{Bool, true, false, cond, true≢false}
 use mathlib.Core.List.{List}
 use mathlib.Core.Option.{Option, none, some}
-use mathlib.Core.Path.{◌≡◌, refl}
+use mathlib.Core.Path.{◌≡◌, refl, sym}
 use Prim.Native.Nat.{ℕ, zero, suc, ◌+◌}
 use native.Mathlib.Omega.{arith}
 use borrow.Author.Tests.{ltb-false, le-ltb}
@@ -22,41 +22,31 @@ use Rattle.rows.specs.declared.Header.{Header}
 use Rattle.rows.specs.declared.Command.{Command}
 use Rattle.rows.specs.declared.Command.TheVariants.{End, Head, Describe, Rest, High, Silence}
 use Rattle.rows.specs.declared.Decoded.{Decoded}
-use Rattle.rows.specs.Rows.{Known, Row, width, with_code, row_at, and_next}
+use Rattle.rows.specs.Rows.{Known, Row, width, with_code}
 use Rattle.addresses.specs.Addresses.{addressed}
 use Rattle.command.specs.Format.{Format, document01, with_tenths, with_readings, with_rests, with_twins, with_sizes, today, is_too_long, decoded_row, decoded, Covered, Within}
 use Rattle.command.proofs.Walk.{Each}
 use Rattle.command.proofs.Formats.{tenths-within, readings-within, rests-within, twins-within, small_with_highs, small-highs-within, highs-within, sizes-within}
-use Rattle.sheet.specs.Reading.{accepted, header_of, with_entry, SoFar, nothing, after_command, known_of, command_in, after_decoded, read_on, read_from, said_in, reading_in, reading}
+use Rattle.sheet.specs.Reading.{accepted, header_of, with_entry, SoFar, nothing, after_command, after_judged, known_of, command_in, read_on, read_from, said_in, reading_in, reading}
 use Rattle.sheet.proofs.Walk.{Leads, said-by}
 use Rattle.sheet.proofs.Rests.{never, accepted-is, is-accepted}
 use Rattle.sheet.proofs.Sound.{after-any-store}
 
--- a refusal is no command
-not-decoded : {P : Type 0} {q : Refusal} {d : Decoded} → Err q ≡ Ok d → P
-not-decoded e =
-    let z : ◌≡◌ {A = ℕ} 0 1 = cc in
-    absurd (omega arith)
-
--- a command that is decoded is one that its row does
-taken : (next : ℕ) (c : Result Command Refusal) {d : Decoded} → and_next next c ≡ Ok d → is_ok c ≡ true
-taken next (Ok c) e = refl
-taken next (Err q) e = not-decoded e
-
--- what is decoded where one is, is decoded behind a test
-behind : (t : Bool) (x : Result Decoded Refusal) {y z : Result Decoded Refusal} {d : Decoded} → (y ≡ Ok d → z ≡ Ok d) → cond t x y ≡ Ok d → cond t x z ≡ Ok d
-behind true x same e = e
-behind false x same e = same e
+-- what is the same where it is not refused is the same behind a test
+behind : (t : Bool) (x : Decoded) {y z : Decoded} → (is_ok y.command ≡ true → z ≡ y) → is_ok (cond t x y).command ≡ true → cond t x z ≡ cond t x y
+behind true x same taken = refl
+behind false x same taken = same taken
 
 module _ (F G : Format) (wider : Within F G) where
-  module _ (h : Header) (known : Known) (s : List ℕ) (at : ℕ) {d : Decoded} where
+  module _ (h : Header) (known : Known) (s : List ℕ) (at : ℕ) where
     -- a row that covers another decodes what that one takes as that one does
-    same_row : (o o' : Option Row) → Covered o o' → decoded_row h known s at o ≡ Ok d → decoded_row h known s at o' ≡ Ok d
-    same_row none o' c e = not-decoded e
-    same_row (some r) none c e = absurd c
-    same_row (some r) (some r') c e = rw c.same_width (behind (ltb (length s) (at + 1 + width r.operands)) _ (λ k. rw (c.same_effect h known s at (taken (at + 1 + width r.operands) (row_at h known s at r) k)) k) e)
+    same_row : (o o' : Option Row) → Covered o o' → is_ok (decoded_row h known s at o).command ≡ true → decoded_row h known s at o' ≡ decoded_row h known s at o
+    same_row none o' c taken = absurd (true≢false (sym taken))
+    same_row (some r) none c taken = absurd c
+    same_row (some r) (some r') c taken =
+        rw c.same_width (behind (ltb (length s) (at + 1 + width r.operands)) _ (λ q. rw (c.same_effect h known s at q)) taken)
 
-    same-decoded : (stage : ℕ) → decoded F h known s at stage ≡ Ok d → decoded G h known s at stage ≡ Ok d
+    same-decoded : (stage : ℕ) → is_ok (decoded F h known s at stage).command ≡ true → decoded G h known s at stage ≡ decoded F h known s at stage
     unfolding decoded
     same-decoded stage = behind (leb (length s) at) _ (same_row (with_code (F.rows stage) (get_or s at 0)) (with_code (G.rows stage) (get_or s at 0)) (wider.covered stage (get_or s at 0)))
 
@@ -64,9 +54,11 @@ module _ (F G : Format) (wider : Within F G) where
     wider-from : (most at stage : ℕ) (x : SoFar) → read_from F most s at stage x ≡ accepted l → read_from G most s at stage x ≡ accepted l
     unfolding read_from
     wider-from zero at stage x e = e
-    wider-from (suc most) at stage x e = by (command_in F x s at stage) refl (wider-from most) e
+    wider-from (suc most) at stage x e =
+        let k = taken (command_in F x s at stage).command (command_in F x s at stage).next (wider-from most) e in
+        rw (same-decoded (header_of x.line) (known_of x (addressed s at)) s at stage k.0) k.1
       where
-        -- a command that is not refused is followed alike
+        -- a command is followed alike
         onward : (c : Command) (next : ℕ)
             → ((at stage : ℕ) (x : SoFar) → read_from F most s at stage x ≡ accepted l → read_from G most s at stage x ≡ accepted l)
             → read_on (after_command c next s at stage x) (read_from F most s) ≡ accepted l
@@ -78,12 +70,13 @@ module _ (F G : Format) (wider : Within F G) where
         onward (High i) next ih e = ih _ _ _ e
         onward (Silence word map) next ih e = ih _ _ _ e
 
-        by : (r : Result Decoded Refusal) → command_in F x s at stage ≡ r
+        -- and what is accepted goes on after no refusal
+        taken : (r : Result Command Refusal) (next : ℕ)
             → ((at stage : ℕ) (x : SoFar) → read_from F most s at stage x ≡ accepted l → read_from G most s at stage x ≡ accepted l)
-            → read_on (after_decoded r s at stage x) (read_from F most s) ≡ accepted l
-            → read_on (after_decoded (command_in G x s at stage) s at stage x) (read_from G most s) ≡ accepted l
-        by (Err q) is ih e = never e
-        by (Ok d) is ih e = rw (same-decoded (header_of x.line) (known_of x (addressed s at)) s at stage is) (onward d.command d.next ih e)
+            → read_on (after_judged r next s at stage x) (read_from F most s) ≡ accepted l
+            → (is_ok r ≡ true) × (read_on (after_judged r next s at stage x) (read_from G most s) ≡ accepted l)
+        taken (Err q) next ih e = never e
+        taken (Ok c) next ih e = (refl, onward c next ih e)
 
     wider-said : said_in F s ≡ accepted l → said_in G s ≡ accepted l
     unfolding said_in

@@ -122,50 +122,49 @@ module _ {s : List ℕ} {x : Index} {h : Header} {at stage : ℕ} (g : Going s x
           rw (gap, g.index.entry i) at (all-in-range (sound-late (omega arith)) i)
 
   -- what is decoded at the place, with what is noted of the tone that the command addresses
-  abbrev pub Met : Result Decoded Refusal → Type 0
-  Met r = r ≡ command_at today h (known_noted s (noted_of x (addressed s at))) s at stage
+  abbrev pub Met : Decoded → Type 0
+  Met d = d ≡ command_at today h (known_noted s (noted_of x (addressed s at))) s at stage
 
-  module _ {r : Result Decoded Refusal} (e : Met r) where
+  module _ {d : Decoded} (e : Met d) where
     -- what was decoded by what is noted of the tone is the command of what the reading remembers
-    matches : r ≡ command_at today (header_of g.sofar.line) (known_of g.sofar (addressed s at)) s at stage
+    matches : d ≡ command_at today (header_of g.sofar.line) (known_of g.sofar (addressed s at)) s at stage
     matches = cc (g.index.entry (addressed s at), g.rested_is (addressed s at), g.widened_is (addressed s at))
 
     -- in a sheet that is not too long
-    here : length s ≤ longest_sheet → r ≡ command_in today g.sofar s at stage
+    here : length s ≤ longest_sheet → d ≡ command_in today g.sofar s at stage
     unfolding command_at
     here short = matches ∙ simp (le-ltb longest_sheet (length s) short)
 
     -- what the reading comes to after this command is what the whole comes to; where the sheet is too long, both are refusal 1
-    after : (n : Next) → after_decoded r s at stage g.sofar ≡ n → read_on n (read_from today (g.most - 1) s) ≡ said s
+    after : (n : Next) → after_decoded d s at stage g.sofar ≡ n → read_on n (read_from today (g.most - 1) s) ≡ said s
     unfolding said_in command_at
     after n o = rw (sym o) (by (dec_le (length s) longest_sheet))
       where
-        by : Dec (length s ≤ longest_sheet) → read_on (after_decoded r s at stage g.sofar) (read_from today (g.most - 1) s) ≡ said s
+        by : Dec (length s ≤ longest_sheet) → read_on (after_decoded d s at stage g.sofar) (read_from today (g.most - 1) s) ≡ said s
         by (yes short) = rw (here short) (sym (one-command g.most s at stage g.sofar (omega arith)) ∙ g.same short)
         by (no m) =
             let long : longest_sheet < length s = omega arith in
             simp (matches, lt-ltb longest_sheet (length s) long)
 
     -- the reading ends with this command
-    ends : (m : Meaning) → after_decoded r s at stage g.sofar ≡ stop m → ((l : Line) → m ≡ accepted l → Indexes s x l) → EndsAs (said s) s (answer_of m) x
+    ends : (m : Meaning) → after_decoded d s at stage g.sofar ≡ stop m → ((l : Line) → m ≡ accepted l → Indexes s x l) → EndsAs (said s) s (answer_of m) x
     ends m o k = record { answer = ap answer_of (after (stop m) o); index = λ l q. k l (after (stop m) o ∙ q) }
 
     -- after a refusal the index is of no line
-    refuses : (q : Refusal) → after_decoded r s at stage g.sofar ≡ stop (refused q) → EndsAs (said s) s (Err q) x
+    refuses : (q : Refusal) → after_decoded d s at stage g.sofar ≡ stop (refused q) → EndsAs (said s) s (Err q) x
     refuses q o = ends (refused q) o (λ l f. never f)
 
-  pub on-refused : {q : Refusal} → Met (Err q) → EndsAs (said s) s (Err q) x
-  on-refused {q} e = refuses e q refl
+    pub on-refused : (q : Refusal) → d.command ≡ Err q → EndsAs (said s) s (Err q) x
+    on-refused q f = refuses q (simp f)
 
-  module _ {d : Decoded} (e : Met (Ok d)) where
-    pub heard : (c : Command) → d.command ≡ c → Said (header_of g.sofar.line) (known_of g.sofar (addressed s at)) s at stage d.next c
-    heard c f = rw f at (rw (sym (matches e)) at (command-said (header_of g.sofar.line) (known_of g.sofar (addressed s at)) s at stage))
+    pub heard : (c : Command) → d.command ≡ Ok c → Said (header_of g.sofar.line) (known_of g.sofar (addressed s at)) s at stage d.next c
+    heard c f = rw f at (rw (sym matches) at (command-said (header_of g.sofar.line) (known_of g.sofar (addressed s at)) s at stage))
 
-    pub on-more : d.command ≡ End → d.next < length s → EndsAs (said s) s (Err (BytesAfterEnd d.next)) x
-    on-more f l = refuses e (BytesAfterEnd d.next) (simp (f, lt-ltb _ _ l))
+    pub on-more : d.command ≡ Ok End → d.next < length s → EndsAs (said s) s (Err (BytesAfterEnd d.next)) x
+    on-more f l = refuses (BytesAfterEnd d.next) (simp (f, lt-ltb _ _ l))
 
-    pub on-end : d.command ≡ End → length s ≤ d.next → EndsAs (said s) s (Ok h) x
-    on-end f l = rw (sym g.header_is) (ends e (accepted g.sofar.line) (simp (f, le-ltb _ _ l)) (λ m q. same m q))
+    pub on-end : d.command ≡ Ok End → length s ≤ d.next → EndsAs (said s) s (Ok h) x
+    on-end f l = rw (sym g.header_is) (ends (accepted g.sofar.line) (simp (f, le-ltb _ _ l)) (λ m q. same m q))
       where
         same : (m : Line) → accepted g.sofar.line ≡ accepted m → Indexes s x m
         same m q =
@@ -173,17 +172,17 @@ module _ {s : List ℕ} {x : Index} {h : Header} {at stage : ℕ} (g : Going s x
             rw is at g.index
 
     -- a tone that a command describes, or gives its rest or its high noise, is one of those that an index has
-    pub described-small : (i : ℕ) → d.command ≡ Describe i → i < most_tones
+    pub described-small : (i : ℕ) → d.command ≡ Ok (Describe i) → i < most_tones
     described-small i f = let k = heard _ f in tone-small k.late k.of_line
 
-    pub rested-small : (i : ℕ) → d.command ≡ Rest i → i < most_tones
+    pub rested-small : (i : ℕ) → d.command ≡ Ok (Rest i) → i < most_tones
     rested-small i f = let k = heard _ f in tone-small k.late k.of_line
 
-    pub widened_small : (i : ℕ) → d.command ≡ High i → i < most_tones
+    pub widened_small : (i : ℕ) → d.command ≡ Ok (High i) → i < most_tones
     widened_small i f = let k = heard _ f in tone-small k.late k.of_line
 
     -- it goes on after this command
-    goes_on : Bytes s → {x' : Index} {h' : Header} {stage' : ℕ} (y : SoFar) → There (length s) at d.next → after_decoded (Ok d) s at stage g.sofar ≡ go d.next stage' y
+    goes_on : Bytes s → {x' : Index} {h' : Header} {stage' : ℕ} (y : SoFar) → There (length s) at d.next → after_decoded d s at stage g.sofar ≡ go d.next stage' y
         → Sized y.line → header_of y.line ≡ h' → Indexes s x' y.line → ((i : ℕ) → y.rested i ≡ ltb 0 (noted_of x' i).rest) → ((i : ℕ) → y.widened i ≡ ltb 0 (noted_of x' i).high)
         → (stage' < 3 → x' ≡ empty_index) → stage' ≤ 3 → stage' ≤ d.next
         → Going s x' h' d.next stage'
@@ -191,7 +190,7 @@ module _ {s : List ℕ} {x : Index} {h : Header} {at stage : ℕ} (g : Going s x
       most = g.most - 1;
       sofar = y;
       sized = sized;
-      sound = rw o at (rw (sym (here e there.short)) at (after_one today s Along Sound (kept s bytes) at stage g.sofar g.sound));
+      sound = rw o at (rw (sym (here there.short)) at (after_one today s Along Sound (kept s bytes) at stage g.sofar g.sound));
       header_is = is;
       index = index;
       rested_is = rested;
@@ -201,10 +200,10 @@ module _ {s : List ℕ} {x : Index} {h : Header} {at stage : ℕ} (g : Going s x
       past = past;
       inside = there.inside;
       enough = omega arith;
-      same = λ short. after e (go d.next _ y) o;
+      same = λ short. after (go d.next _ y) o;
     }
 
-    pub on-head : Bytes s → (h' : Header) → d.command ≡ Head h' → Going s x h' d.next (stage + 1)
+    pub on-head : Bytes s → (h' : Header) → d.command ≡ Ok (Head h') → Going s x h' d.next (stage + 1)
     on-head bytes h' f =
         let k = heard _ f in
         let index : Indexes s x (bare_line h') = rw (g.empty k.early) (notes-head s h') in
@@ -237,7 +236,7 @@ module _ {s : List ℕ} {x : Index} {h : Header} {at stage : ℕ} (g : Going s x
           by (no m) = rw (ne_eqb j i m) (same j ∙ ap (λ (k : Noted). ltb 0 (f k)) (sym (get_or-set_other x.tones i j n nowhere m)))
 
     -- the tone that is described is the one that the command addresses
-    pub on-describe : Bytes s → (i : ℕ) → d.command ≡ Describe i → Going s (with_noted x i (owned (noted_of x i) at)) h d.next stage
+    pub on-describe : Bytes s → (i : ℕ) → d.command ≡ Ok (Describe i) → Going s (with_noted x i (owned (noted_of x i) at)) h d.next stage
     on-describe bytes i f =
         let k = heard _ f in
         let small = tone-small k.late k.of_line in
@@ -249,7 +248,7 @@ module _ {s : List ℕ} {x : Index} {h : Header} {at stage : ℕ} (g : Going s x
         (λ l. absurd (omega arith)) g.low (omega arith)
 
     -- and so is the tone that is given its rest
-    pub on-rest : Bytes s → (i : ℕ) → d.command ≡ Rest i → Going s (with_noted x i (rested (noted_of x i) at)) h d.next stage
+    pub on-rest : Bytes s → (i : ℕ) → d.command ≡ Ok (Rest i) → Going s (with_noted x i (rested (noted_of x i) at)) h d.next stage
     on-rest bytes i f =
         let k = heard _ f in
         let small = tone-small k.late k.of_line in
@@ -262,7 +261,7 @@ module _ {s : List ℕ} {x : Index} {h : Header} {at stage : ℕ} (g : Going s x
         (λ l. absurd (omega arith)) g.low (omega arith)
 
     -- and the one that is given its high noise
-    pub on-high : Bytes s → (i : ℕ) → d.command ≡ High i → Going s (with_noted x i (widened (noted_of x i) at)) h d.next stage
+    pub on-high : Bytes s → (i : ℕ) → d.command ≡ Ok (High i) → Going s (with_noted x i (widened (noted_of x i) at)) h d.next stage
     on-high bytes i f =
         let k = heard _ f in
         let small = tone-small k.late k.of_line in
@@ -274,7 +273,7 @@ module _ {s : List ℕ} {x : Index} {h : Header} {at stage : ℕ} (g : Going s x
         (remembers small (widened (noted_of x i) at) (λ (n : Noted). n.high) g.sofar.widened g.widened_is late)
         (λ l. absurd (omega arith)) g.low (omega arith)
 
-    pub on-silence : Bytes s → (word map : ℕ) → map < 2 ^ 32 → d.command ≡ Silence word map → Going s (with_map x word map) h d.next stage
+    pub on-silence : Bytes s → (word map : ℕ) → map < 2 ^ 32 → d.command ≡ Ok (Silence word map) → Going s (with_map x word map) h d.next stage
     on-silence bytes word map small f =
         let k = heard _ f in
         goes_on bytes (so_far_after (Silence word map) s at g.sofar) k.there (simp f)

@@ -60,7 +60,7 @@ module _ (F : Format) (s : List ℕ) (I : (at stage : ℕ) → SoFar → Type 0)
     -- one command
     pub after_one : (at stage : ℕ) (x : SoFar) → I at stage x → After (after_decoded (command_in F x s at stage) s at stage x)
     after_one at stage x i =
-        by_rows F (header_of x.line) (known_of x (addressed s at)) s at stage (λ d. After (after_decoded d s at stage x)) (λ q. tt)
+        by_rows F (header_of x.line) (known_of x (addressed s at)) s at stage (λ d. After (after_decoded d s at stage x)) (λ q next. tt)
         (each_of (λ r k e inside p. after at stage x (at + 1 + width r.operands) inside (r.does (header_of x.line) (values [] s (at + 1) r.operands)) (k e inside p))
         (F.rows stage)
         (kept at stage x i))

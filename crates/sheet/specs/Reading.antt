@@ -106,12 +106,16 @@ abbrev pub known_of : SoFar → (i : ℕ) → Known
 known_of x i = record { entry = entry_of x.line i; rested = x.rested i; widened = x.widened i }
 
 -- the command at a place, decoded with the header so far and what is known of the tone that it addresses
-abbrev pub command_in : Format → SoFar → List ℕ → (at stage : ℕ) → Result Decoded Refusal
+abbrev pub command_in : Format → SoFar → List ℕ → (at stage : ℕ) → Decoded
 command_in F x s at stage = decoded F (header_of x.line) (known_of x (addressed s at)) s at stage
 
-abbrev pub after_decoded : Result Decoded Refusal → List ℕ → (at stage : ℕ) → SoFar → Next
-after_decoded (Ok d) s at stage x = after_command d.command d.next s at stage x
-after_decoded (Err r) s at stage x = stop (refused r)
+-- a refusal of one ends the reading
+abbrev pub after_judged : Result Command Refusal → (next : ℕ) → List ℕ → (at stage : ℕ) → SoFar → Next
+after_judged (Ok c) next s at stage x = after_command c next s at stage x
+after_judged (Err r) next s at stage x = stop (refused r)
+
+abbrev pub after_decoded : Decoded → List ℕ → (at stage : ℕ) → SoFar → Next
+after_decoded d s at stage x = after_judged d.command d.next s at stage x
 
 abbrev pub read_on : Next → ((at stage : ℕ) → SoFar → Meaning) → Meaning
 read_on (stop m) on = m

@@ -65,8 +65,8 @@ pub fn read_commands(s: &[u8], index: &mut Index) -> Result<Header, Refusal>
     // No `for`: each command says where the next one stands.
     loop {
         let noted = index.noted(addresses::addressed(s, at));
-        let decoded = command::decode(s, at, stage, header, noted)?;
-        match decoded.command {
+        let decoded = command::decode(s, at, stage, header, noted);
+        match decoded.command? {
             Command::End => {
                 if decoded.next < s.len() {
                     return Err(Refusal::BytesAfterEnd(decoded.next as u16));

@@ -15,6 +15,7 @@ use Rattle.steps.proofs.Sums.{sum-at-most, sum-eq, sum-zero}
 use Rattle.line.specs.Arrays.{Arrays, rest_at, power_at, RestsInRange, PowersInRange}
 use Rattle.line.proofs.Powers.{power-high}
 use Rattle.line.proofs.Arrays.{no-bits-stand, no-bits-power}
+use Rattle.running.specs.declared.Running.{Running}
 use Rattle.running.specs.declared.Totals.{Totals}
 use Rattle.starts.specs.Starts.{CopiedFrom, StartsAtNone, StartsAt}
 
@@ -44,6 +45,18 @@ pub none-starts : {count power : ℕ} {A : Arrays} → power ≡ sum count (rest
 none-starts e T D R = record {
   table = no-bits-stand D R;
   sums = record { same_bits = sym (sum-zero T.count (◌!◌ (no_bits T)) (λ i il. all_same T.count i 0)); same_power = e ∙ sym (no-bits-power D) };
+}
+
+-- a running table that is copied from a starting table stands for it by any array with the same powers: the limits play no part
+pub copied-starts : {A other : Arrays} {t : Table} {r : Running} → CopiedFrom A t r
+    → ((i b : ℕ) → i < length t → power_at other i b ≡ power_at A i b) → StartsAt other t r
+copied-starts {A} {other} {t} C same T D R K = record {
+  table = record { describes = D; rising = R; within = K; same_bits = λ j jl. sym (C.same_bits j jl) };
+  sums = record {
+    same_bits = rw K.sized at C.total_bits;
+    same_power = rw K.sized at C.total_power
+        ∙ sum-eq T.count _ _ (λ j jl. sym (D.same_power j (t ! j) (omega (arith, K.sized)) (K.under j jl) ∙ same j (t ! j) (omega (arith, K.sized))));
+  };
 }
 
 module _ {A : Arrays} {t : Table} where
@@ -83,11 +96,4 @@ module _ {A : Arrays} {t : Table} where
     }
 
     pub copied-stands : i ≡ length t → StartsAt A t (record { bits = bits; totals = s })
-    copied-stands e T D R K = record {
-      table = record { describes = D; rising = R; within = K; same_bits = λ j jl. sym (C.copied.front j (omega arith)) };
-      sums = record {
-        same_bits = rw (e ∙ K.sized) at C.sum_bits;
-        same_power = rw (e ∙ K.sized) at C.sum_power
-            ∙ sum-eq T.count _ _ (λ j jl. sym (D.same_power j (t ! j) (omega (arith, K.sized)) (K.under j jl)));
-      };
-    }
+    copied-stands e = copied-starts (copied-from e) (λ j b jl. refl)

@@ -134,7 +134,7 @@ module _ (x : SoFar) (stage : ℕ) (r : Row) (vs q : List ℕ) (found : with_cod
     values-stand : Stand s (at + 1) r.operands vs
     values-stand = operands-stand s q (at + 1) good operands-there
 
-    command-stands : at ≤ length s → command_in today x s at stage ≡ Ok (record { command = r.does (header_of x.line) vs; next = next r at })
+    command-stands : at ≤ length s → command_in today x s at stage ≡ record { command = Ok (r.does (header_of x.line) vs); next = next r at }
     unfolding decoded row_at
     command-stands h =
         let there : leb (length s) at ≡ false = lt-leb (length s) at (omega (arith, length-sheet h)) in

@@ -61,6 +61,13 @@ module _ (s : List ℕ) (i : ℕ) (n : Noted) {k : Noted} (is : k ≡ kept s n) 
         length-append (tone_copy s i k.rest) (tone_copy s i k.high),
       )
 
+-- none of a tone of which nothing is noted
+pub nothing-kept : (s : List ℕ) (i own rest high : ℕ) → own ≤ 0 → rest ≤ 0 → high ≤ 0 → entry_copy s i own rest high ≡ []
+nothing-kept s i zero zero zero o r h = rw (eq-eqb (noise_of (tone_at s 0).kind) (noise_of (tone_at s 0).kind) refl)
+nothing-kept s i (suc p) rest high o r h = absurd (omega arith)
+nothing-kept s i zero (suc p) high o r h = absurd (omega arith)
+nothing-kept s i zero zero (suc p) o r h = absurd (omega arith)
+
 -- they are all there, as those of the tone are
 inside-unless : (s : List ℕ) (out : Bool) (place : ℕ) → Inside s place → Inside s (cond out 0 place)
 inside-unless s true place inside = record { numbered = λ h. absurd (omega arith); whole = λ h. absurd (omega arith) }

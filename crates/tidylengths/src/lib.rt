@@ -6,7 +6,7 @@ ghost use Rattle.std.specs.Prelude.{◌≡◌, ℕ, ◌+◌, ◌*◌, ◌≤◌,
 ghost use Rattle.sizes.specs.Sizes.{most_tones, levels_command};
 ghost use Rattle.places.specs.Places.{nowhere};
 ghost use Rattle.tidyform.specs.Tidy.{tidy_width};
-ghost use Rattle.tidylengths.specs.Copies.{Inside, AllInside, kept, tone_copy, copies};
+ghost use Rattle.tidylengths.specs.Copies.{Inside, AllInside, kept, tone_copy, entry_copy, copies};
 
 use places::Noted;
 use sizes::TONES;
@@ -25,6 +25,7 @@ pub fn tidy_width(tone: u16) -> usize
 }
 
 // Where the commands of a tone stand that the tidy form keeps: a rest of 0 goes, and so does a high noise that is the tone's own.
+#[inline]
 pub fn kept(s: &[u8], noted: Noted) -> Noted
     ensures { result ≡ kept s.now noted }
 {
@@ -50,6 +51,21 @@ fn command_bytes(s: &[u8], tone: u16, place: u16) -> usize
     rows::bytes_of(code) - addresses::number_width(code) + tidy_width(tone)
 }
 
+// How many bytes the commands of a tone take that the tidy form keeps. Most tones of a line with few described ones have none, so that is asked
+// first.
+fn tone_bytes(s: &[u8], tone: u16, noted: Noted) -> usize
+    requires { AllInside s.now noted }
+    ensures { (result ≡ length (entry_copy s.now tone noted.own noted.rest noted.high)) × (result ≤ 3 * (levels_command + 2)) }
+{
+    if noted.own < 1 && noted.rest < 1 && noted.high < 1 {
+        return 0;
+    }
+    let kept = kept(s, noted);
+    command_bytes(s, tone, kept.own)
+        + command_bytes(s, tone, kept.rest)
+        + command_bytes(s, tone, kept.high)
+}
+
 // How many bytes the described tones take, with their rests and their high noises.
 pub fn tones_bytes(s: &[u8], size: u16, tones: &[Noted; TONES]) -> usize
     requires size_le_most_tones { size ≤ most_tones }
@@ -58,10 +74,7 @@ pub fn tones_bytes(s: &[u8], size: u16, tones: &[Noted; TONES]) -> usize
 {
     let mut bytes: usize = 0;
     for tone in 0..size {
-        let kept = kept(s, tones[tone as usize]);
-        bytes += command_bytes(s, tone, kept.own)
-            + command_bytes(s, tone, kept.rest)
-            + command_bytes(s, tone, kept.high);
+        bytes += tone_bytes(s, tone, tones[tone as usize]);
     }
     bytes
 }

@@ -1,13 +1,12 @@
 -- Runs of stores, one after the other: what the commands of a tone leave in a lent buffer.
 -- Assumes nothing.
-use mathlib.Core.Path.{◌≡◌, refl, sym, ap, ◌∙◌}
-use mathlib.Core.List.{List, ◌++◌, append_assoc}
-use borrow.Rule.Slice.PartMut.{put_mid}
+use mathlib.Core.Path.{◌≡◌, refl, ap, ◌∙◌}
+use mathlib.Core.List.{List, ◌++◌}
 use Prim.Native.Nat.{ℕ, zero, suc, ◌+◌, ◌≤◌}
 use native.Mathlib.Numerals.{add-one}
 use native.Mathlib.Omega.{arith}
 use lib.ListN.{length, get_or, set, take, drop, length-drop}
-use lib.Seq.{sets, take-suc, get_or-drop, drop-drop, sets-eq}
+use lib.Seq.{sets, take-suc, get_or-drop}
 use Rattle.lists.specs.Joined.{joined_below}
 use Rattle.bigendian.specs.Number.{bytes}
 use Rattle.bigendian.proofs.Numbers.{length-bytes}
@@ -30,12 +29,6 @@ unfolding joined_below
 part-lent s at zero h = refl
 part-lent s at (suc w) h =
     take-suc (drop at s) w 0 (omega (arith, length-drop at s)) ∙ rw (part-lent s at w (omega arith), get_or-drop at s w 0) refl
-
--- a part of the buffer that is written whole
-pub mid-stores : (out : List ℕ) (at width : ℕ) {written bytes : List ℕ} → written ≡ bytes → width ≡ length bytes → at + length bytes ≤ length out
-    → put_mid at width out written ≡ sets out at bytes
-mid-stores out at width {written} {bytes} is wide h =
-    rw (is, wide, drop-drop (length bytes) at out, sets-eq bytes out at h) (sym (append_assoc (take at out) bytes (drop (at + length bytes) out)))
 
 -- a command
 pub command-stores : (s : List ℕ) (i place : ℕ) (out : List ℕ) (at : ℕ) → sets out at (command_copy s i place)

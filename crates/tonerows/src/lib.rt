@@ -6,7 +6,7 @@ ghost use Rattle.std.specs.Prelude.{List, [], ◌∷◌, ◌≡◌, ℕ, ◌+◌
 ghost use Rattle.sizes.specs.Sizes.{longest_sheet};
 ghost use Rattle.rows.specs.declared.Header.{Header};
 ghost use Rattle.rows.specs.Rows.{Known, cap_and_mask, numbers, level_operands, ratio_operands, width, describes_from, row_at};
-ghost use Rattle.rows.specs.Codes.{known_noted, tone_row};
+ghost use Rattle.rows.specs.Codes.{known_at, tone_row};
 
 use places::Noted;
 use readings::{Levels, Reading};
@@ -96,7 +96,7 @@ pub fn tone_command(
 ) -> Result<Command, Refusal>
     requires code_in_bounds { at + 1 + width (tone_row code).operands ≤ length s.now }
     requires s_len_bound { length s.now ≤ longest_sheet }
-    ensures { result ≡ row_at header (known_noted s.now noted) s.now at (tone_row code) }
+    ensures { (rested widened : ℕ) → result ≡ row_at header (known_at s.now noted.own rested widened) s.now at (tone_row code) }
 {
     let tone = addresses::tone_number(s, at, code);
     if header.size <= tone {

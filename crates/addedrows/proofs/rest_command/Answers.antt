@@ -10,7 +10,7 @@ use Rattle.bigendian.proofs.Numbers.{number-there}
 use Rattle.gaps.specs.Gap.{parts}
 use Rattle.refusals.specs.declared.Refusal.TheVariants.{RestOutOfRange}
 use Rattle.addresses.specs.Addresses.{number_width}
-use Rattle.places.specs.Places.{entry_noted}
+use Rattle.places.specs.Places.{entry_at}
 use Rattle.rows.specs.declared.Command.TheVariants.{Rest}
 use Rattle.rows.specs.Rows.{is_rest_of}
 use Rattle.rows.proofs.Judging.{rest-judged}
@@ -37,34 +37,34 @@ rest_read : (c : After-number_at-rest) → let a = c.args in c.number_at-rest.re
 rest_read c = rw c.number_width.ensures.0 at c.number_at-rest.ensures.meaning ∙ number-there _ _ 4 (omega arith) (omega (arith, c.requires.code_in_bounds))
 
 -- what the operands come to is what the test of the rest decides
-judged : (c : After-takes_rest) (b : Bool) → let a = c.args in
+judged : (c : After-takes_rest) (widened : ℕ) (b : Bool) → let a = c.args in
     0 < a.noted.own
     → c.number_at-rest.result ≡ number a.s.now (a.at + 1 + number_width a.code) 4
     → c.takes_rest.result ≡ b
-    → is_rest_of (parts a.header.gap) (entry_noted a.s.now a.noted) (number a.s.now (a.at + 1 + number_width a.code) 4) ≡ b
-judged c b l read e =
+    → is_rest_of (parts a.header.gap) (entry_at a.s.now a.noted.own a.noted.rest widened) (number a.s.now (a.at + 1 + number_width a.code) 4) ≡ b
+judged c widened b l read e =
     let a = c.args in
-    rest-judged a.s.now a.noted.own a.noted.rest a.noted.high (parts a.header.gap) (number a.s.now (a.at + 1 + number_width a.code) 4) l
+    rest-judged a.s.now a.noted.own a.noted.rest widened (parts a.header.gap) (number a.s.now (a.at + 1 + number_width a.code) 4) l
     ∙ sym (rw (c.parts.ensures, read) at c.takes_rest.ensures)
     ∙ e
 
 pub returns-in_err-tone : goal.returns-in_err-tone
-returns-in_err-tone c =
+returns-in_err-tone c = λ widened.
     let a = c.args in
-    search (rules, rest-adding a.header a.s.now a.at (number_width a.code) a.noted)
+    search (rules, rest-adding a.header a.s.now a.at (number_width a.code) a.noted.own a.noted.rest widened)
 
 pub returns-then-not-takes_rest : goal.returns-then-not-takes_rest
-returns-then-not-takes_rest c =
+returns-then-not-takes_rest c = λ widened.
     let a = c.args in
     let p = goal.at.returns-then-not-takes_rest c in
-    let is = judged p.After-takes_rest _ (there p.In_ok-tone) (rest_read p.After-number_at-rest) c.if-not-takes_rest.true in
+    let is = judged p.After-takes_rest widened _ (there p.In_ok-tone) (rest_read p.After-number_at-rest) c.if-not-takes_rest.true in
     ap (λ (w : ℕ). Err (RestOutOfRange (a.at + 1 + w))) c.number_width.ensures.0
-    ∙ sym (rest-adding a.header a.s.now a.at (number_width a.code) a.noted ∙ rw (takes p.In_ok-tone, is))
+    ∙ sym (rest-adding a.header a.s.now a.at (number_width a.code) a.noted.own a.noted.rest widened ∙ rw (takes p.In_ok-tone, is))
 
 pub returns : goal.returns
-returns c =
+returns c = λ widened.
     let a = c.args in
     let p = goal.at.returns c in
-    let is = judged p.After-takes_rest _ (there p.In_ok-tone) (rest_read p.After-number_at-rest) c.if-not-takes_rest.false in
+    let is = judged p.After-takes_rest widened _ (there p.In_ok-tone) (rest_read p.After-number_at-rest) c.if-not-takes_rest.false in
     ap (λ (tone : ℕ). Ok (Rest tone)) (adding-tone a.header.size (number a.s.now (a.at + 1) (number_width a.code)) (a.at + 1) (takes_at a.noted.own a.noted.rest) _ (takes p.In_ok-tone))
-    ∙ sym (rest-adding a.header a.s.now a.at (number_width a.code) a.noted ∙ rw (takes p.In_ok-tone, is))
+    ∙ sym (rest-adding a.header a.s.now a.at (number_width a.code) a.noted.own a.noted.rest widened ∙ rw (takes p.In_ok-tone, is))

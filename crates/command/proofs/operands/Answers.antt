@@ -71,10 +71,10 @@ high_command-requires c =
     }
 
 pub returns-in-11 : goal.returns-in-11
-returns-in-11 c = c.rest_command.ensures ∙ ap (row_at _ _ _ _) (rest-row c.args.code (rest-code (goal.at.returns-in-11 c).In-11))
+returns-in-11 c = c.rest_command.ensures c.args.noted.high ∙ ap (row_at _ _ _ _) (rest-row c.args.code (rest-code (goal.at.returns-in-11 c).In-11))
 
 pub returns-in-12 : goal.returns-in-12
-returns-in-12 c = c.high_command.ensures ∙ ap (row_at _ _ _ _) (high-row c.args.code (high-code (goal.at.returns-in-12 c).In-12))
+returns-in-12 c = c.high_command.ensures c.args.noted.rest ∙ ap (row_at _ _ _ _) (high-row c.args.code (high-code (goal.at.returns-in-12 c).In-12))
 
 pub tone_command-requires : goal.tone_command-requires
 tone_command-requires c = record {
@@ -83,7 +83,7 @@ tone_command-requires c = record {
 }
 
 pub returns-in-4 : goal.returns-in-4
-returns-in-4 c = c.tone_command.ensures ∙ ap (row_at _ _ _ _) (tone-row c.args.code (tone-code (goal.at.returns-in-4 c).In-4-1))
+returns-in-4 c = c.tone_command.ensures c.args.noted.rest c.args.noted.high ∙ ap (row_at _ _ _ _) (tone-row c.args.code (tone-code (goal.at.returns-in-4 c).In-4-1))
 
 pub line_operands-requires : goal.line_operands-requires
 line_operands-requires c = record {

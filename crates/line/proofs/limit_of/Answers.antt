@@ -1,8 +1,8 @@
 -- `line::limit_of` meets its contract. Assumes nothing.
-use mathlib.Core.Path.{◌≡◌}
+use mathlib.Core.Path.{◌≡◌, refl}
 use Prim.Native.Nat.{◌*◌}
 use native.Mathlib.Omega.{arith}
-use Rattle.line.proofs.Tries.{Searched, shift-at-most-2, next, next_fits, mask-ends, cap-ends}
+use Rattle.line.proofs.Tries.{Searched, shift-at-most-2, one_more, next, next_fits, mask-ends, cap-ends}
 use Rattle.line.proofs.limit_of.Goals.{After-doublings-shift}
 use Rattle.line.proofs.limit_of.Goals as goal
 
@@ -24,7 +24,7 @@ power_of-first-requires c = record {
 pub loop-bits-init : goal.loop-bits-init
 loop-bits-init c =
     let none : c.doublings-shift.result * 0 ≡ 0 = omega arith in
-    record { at_most = omega arith; power_is = rw none (omega arith); under = omega arith }
+    record { at_most = omega arith; power_is = rw none (omega arith); under = omega arith; counted = refl }
 
 pub overflow_shl-power : goal.overflow_shl-power
 overflow_shl-power c = omega (arith, shift-at-most-2 (searched (goal.at.overflow_shl-power c).After-doublings-shift))
@@ -33,6 +33,11 @@ pub overflow_add-power : goal.overflow_add-power
 overflow_add-power c =
     let a = c in
     record { fits = next_fits (searched (goal.at.overflow_add-power c).After-doublings-shift) a.loop-bits.invariant a.power_of-first.ensures }
+
+pub overflow_add-tries : goal.overflow_add-tries
+overflow_add-tries c =
+    let a = c in
+    record { fits = omega (arith, one_more (searched (goal.at.overflow_add-tries c).After-doublings-shift) a.loop-bits.invariant, a.loop-bits.invariant.counted) }
 
 pub returns-then-bounds-power : goal.returns-then-bounds-power
 returns-then-bounds-power c =
@@ -47,6 +52,7 @@ loop-bits-preserved c =
       at_most = omega arith;
       power_is = next (searched (goal.at.loop-bits-preserved c).After-doublings-shift) c.loop-bits.invariant c.power_of-first.ensures;
       under = omega arith;
+      counted = omega (arith, c.loop-bits.invariant.counted);
     }
 
 pub returns : goal.returns

@@ -4,8 +4,8 @@ use lib.ListN.{length}
 use Rattle.sheet.proofs.Turns.{Going}
 use Rattle.sheet.proofs.read_commands.Given as goal
 
-abbrev pub invariant-loop-decoded : goal.invariant-loop-decoded
-invariant-loop-decoded l = Going l.s l.index l.header l.at l.stage
+abbrev pub invariant-loop-h : goal.invariant-loop-h
+invariant-loop-h l = Going l.s l.index l.header l.at l.stage
 
-abbrev pub decreases-loop-decoded : goal.decreases-loop-decoded
-decreases-loop-decoded l = suc (length l.s) - l.at
+abbrev pub decreases-loop-h : goal.decreases-loop-h
+decreases-loop-h l = suc (length l.s) - l.at

@@ -14,7 +14,7 @@ pub power-requires : goal.power-requires
 power-requires c =
     let t = turn c.args.start.now c.args.tones.now _ _ c.next.new.self _ _ (cc) (cc) (cc) c.loop-tone.yielded_by c.next.ensures.steps _ c.in-Some.is in
     let ready = c.requires.powers_in_range in
-    rw (t.bits_are, t.steps_are) (record { cost_bound = ready.cost_high _ t.inside; bits_bound = ready.shift_high _ t.inside })
+    rw (t.bits_are, t.steps_are) (record { cost_bound = ready.cost_high _ (omega (arith, t.inside, t.tone_is)); bits_bound = ready.shift_high _ t.inside })
 
 pub overflow_add-totals : goal.overflow_add-totals
 overflow_add-totals c =

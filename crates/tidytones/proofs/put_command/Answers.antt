@@ -8,7 +8,7 @@ use Rattle.addresses.specs.Addresses.{carried_at}
 use Rattle.tidyform.specs.Tidy.{tidy_width}
 use Rattle.tidylengths.specs.Copies.{part, carried_bytes}
 use Rattle.tidylengths.proofs.Commands.{length-command, length_part}
-use Rattle.tidytones.proofs.Writes.{part-lent, mid-stores, command-stores}
+use Rattle.tidytones.proofs.Writes.{part-lent, command-stores}
 use Rattle.tidytones.proofs.put_command.Goals.{After-bytes_of, Start}
 use Rattle.tidytones.proofs.put_command.Goals as goal
 
@@ -43,9 +43,9 @@ carried-long c = let a = c.args in rw (carried-is c) (length_part a.s.now (carri
 kept : (c : After-bytes_of) → length c.put_number.new.out ≡ length c.args.out.now
 kept c = c.put_number.auto.out ∙ simp length-set
 
-pub slice_bounds-copy_from_slice-end : goal.slice_bounds-copy_from_slice-end
-slice_bounds-copy_from_slice-end c =
-    let p = goal.at.slice_bounds-copy_from_slice-end c in
+pub copy-requires : goal.copy-requires
+copy-requires c =
+    let p = goal.at.copy-requires c in
     omega (arith, room p.Start, carried-long p.After-bytes_of, kept p.After-bytes_of, c.tidy_width-width.ensures.0)
 
 pub returns-clause-place : goal.returns-clause-place
@@ -57,11 +57,8 @@ pub returns-clause-bytes : goal.returns-clause-bytes
 returns-clause-bytes c =
     let a = c.args in
     let p = goal.at.returns-clause-bytes c in
-    let b = p.After-bytes_of in
     let width = c.tidy_width-width.ensures.0 in
-    let long = carried-long b in
-    let carried = length_part a.s.now (carried_at a.s.now a.place) (carried_bytes (get_or a.s.now a.place 0)) in
     let number = c.put_number.ensures ∙ number_fits _ _ _ _ (simp length-set (omega (arith, room p.Start, width))) in
-    mid-stores c.put_number.new.out (a.at + 1 + c.tidy_width-width.result) _ (c.copy_from_slice.ensures.after ∙ carried-is b)
-    (omega (arith, long, carried)) (omega (arith, room p.Start, carried, kept b, width))
-    ∙ rw (number, c.code_of.ensures, c.short_of.ensures, width) (sym (command-stores a.s.now a.tone a.place a.out.now a.at))
+    c.copy.ensures
+    ∙ rw (number, carried-is p.After-bytes_of, c.code_of.ensures, c.short_of.ensures, width)
+    (sym (command-stores a.s.now a.tone a.place a.out.now a.at))

@@ -1,10 +1,10 @@
 -- `tidytones::put_tone` meets its contract. Assumes nothing.
-use mathlib.Core.Path.{sym, ◌∙◌}
+use mathlib.Core.Path.{refl, sym, ◌∙◌}
 use Prim.Native.Nat.{◌+◌, ◌≤◌}
 use native.Mathlib.Omega.{arith}
 use lib.ListN.{length}
 use Rattle.tidylengths.specs.Copies.{AllInside, tone_copy}
-use Rattle.tidylengths.proofs.Commands.{kept-inside, length-kept}
+use Rattle.tidylengths.proofs.Commands.{nothing-kept, kept-inside, length-kept}
 use Rattle.tidytones.proofs.Writes.{entry-stores}
 use Rattle.tidytones.proofs.put_tone.Goals.{After-kept-kept}
 use Rattle.tidytones.proofs.put_tone.Goals as goal
@@ -19,6 +19,11 @@ room : (c : After-kept-kept) → (let a = c.args in
     a.at + length (tone_copy a.s.now a.tone k.own) + length (tone_copy a.s.now a.tone k.rest) + length (tone_copy a.s.now a.tone k.high)
     ≤ length a.out.now)
 room c = let a = c.args in omega (arith, c.requires.bytes_in_bounds, length-kept a.s.now a.tone a.noted c.kept-kept.ensures)
+
+pub returns-then-noted-lt1-3 : goal.returns-then-noted-lt1-3
+returns-then-noted-lt1-3 c =
+    let a = c.args in
+    rw (nothing-kept a.s.now a.tone a.noted.own a.noted.rest a.noted.high (omega arith) (omega arith) (omega arith)) (record { place = omega arith; bytes = refl })
 
 pub put_any-own_end-requires : goal.put_any-own_end-requires
 put_any-own_end-requires c =

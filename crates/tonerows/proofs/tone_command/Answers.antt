@@ -8,26 +8,25 @@ use lib.Dec.{eqb}
 use lib.ListN.{length}
 use Rattle.bigendian.specs.Number.{number}
 use Rattle.addresses.specs.Addresses.{number_width, short_of}
-use Rattle.places.specs.declared.Noted.{Noted}
 use Rattle.rows.specs.declared.Header.{Header}
 use Rattle.rows.specs.Rows.{Operand, numbers, level_operands, ratio_operands, width, describes_from, row_at}
-use Rattle.rows.specs.Codes.{known_noted, tone_operands, tone_row}
+use Rattle.rows.specs.Codes.{known_at, tone_operands, tone_row}
 use Rattle.rows.proofs.Judging.{described-at, tone-operands, number-codes}
 use Rattle.tonerows.proofs.tone_command.Goals.{After-number_width, In-10, In-9, In_default}
 use Rattle.tonerows.proofs.tone_command.Goals as goal
 
 -- a tone of the line that is not described leaves it to the operands after its number
-from-tone : (h : Header) (s : List ℕ) (at code : ℕ) (n : Noted) (tone : ℕ) (os : List Operand)
+from-tone : (h : Header) (s : List ℕ) (at code place rest high tone : ℕ) (os : List Operand)
     → tone ≡ number s (at + 1) (number_width code)
     → tone < h.size
-    → n.own ≤ 0
+    → place ≤ 0
     → tone_operands (short_of code) ≡ os
-    → row_at h (known_noted s n) s at (tone_row code)
-    ≡ describes_from h (known_noted s n) (number s (at + 1) (number_width code) ∷ []) s (at + 1 + number_width code) os
-from-tone h s at code n tone os is of_line free e =
+    → row_at h (known_at s place rest high) s at (tone_row code)
+    ≡ describes_from h (known_at s place rest high) (number s (at + 1) (number_width code) ∷ []) s (at + 1 + number_width code) os
+from-tone h s at code place rest high tone os is of_line free e =
     tone-operands _ _ _ _ (number_width code) (short_of code) (tone_operands (short_of code))
-    ∙ rw (lt-leb _ _ (rw is at of_line), described-at s n.rest n.high n.own, le-ltb 0 n.own free)
-    (ap (describes_from h (known_noted s n) (number s (at + 1) (number_width code) ∷ []) s (at + 1 + number_width code)) e)
+    ∙ rw (lt-leb _ _ (rw is at of_line), described-at s rest high place, le-ltb 0 place free)
+    (ap (describes_from h (known_at s place rest high) (number s (at + 1) (number_width code) ∷ []) s (at + 1 + number_width code)) e)
 
 -- the operands after the number, in each arm
 levels-are : (c : In-9) → tone_operands (short_of c.args.code) ≡ level_operands
@@ -45,15 +44,15 @@ room : (c : After-number_width) (os : List Operand) → tone_operands (short_of 
 room c os e = omega (arith, c.number_width.ensures.0, ap width e, c.requires.code_in_bounds)
 
 pub returns-then-header-tone : goal.returns-then-header-tone
-returns-then-header-tone c =
+returns-then-header-tone c = λ rest high.
     sym (tone-operands _ _ _ _ (number_width c.args.code) _ _ ∙ rw (le-leb _ _ (rw c.tone_number-tone.ensures at c.if-header-tone.true)))
 
 pub returns-then-noted-gt0 : goal.returns-then-noted-gt0
-returns-then-noted-gt0 c =
+returns-then-noted-gt0 c = λ rest high.
     let a = c.args in
     sym
     (tone-operands _ _ _ _ (number_width a.code) _ _
-    ∙ rw (lt-leb _ _ (rw c.tone_number-tone.ensures at c.if-header-tone.false), described-at a.s.now a.noted.rest a.noted.high a.noted.own, lt-ltb 0 a.noted.own (omega arith)))
+    ∙ rw (lt-leb _ _ (rw c.tone_number-tone.ensures at c.if-header-tone.false), described-at a.s.now rest high a.noted.own, lt-ltb 0 a.noted.own (omega arith)))
 
 pub from_levels-requires : goal.from_levels-requires
 from_levels-requires c = record {
@@ -74,22 +73,22 @@ from_numbers-requires c = record {
 }
 
 pub returns-in-9 : goal.returns-in-9
-returns-in-9 c =
+returns-in-9 c = λ rest high.
     let a = c.args in
     let os = levels-are (goal.at.returns-in-9 c).In-9 in
-    rw (c.tone_number-tone.ensures, c.number_width.ensures.0) at (c.from_levels.ensures (known_noted a.s.now a.noted))
-    ∙ sym (from-tone a.header a.s.now a.at a.code a.noted _ level_operands c.tone_number-tone.ensures c.if-header-tone.false c.if-noted-gt0.false os)
+    rw (c.tone_number-tone.ensures, c.number_width.ensures.0) at (c.from_levels.ensures (known_at a.s.now a.noted.own rest high))
+    ∙ sym (from-tone a.header a.s.now a.at a.code a.noted.own rest high _ level_operands c.tone_number-tone.ensures c.if-header-tone.false c.if-noted-gt0.false os)
 
 pub returns-in-10 : goal.returns-in-10
-returns-in-10 c =
+returns-in-10 c = λ rest high.
     let a = c.args in
     let os = ratio-are (goal.at.returns-in-10 c).In-10 in
-    rw (c.tone_number-tone.ensures, c.number_width.ensures.0) at (c.from_ratio.ensures (known_noted a.s.now a.noted))
-    ∙ sym (from-tone a.header a.s.now a.at a.code a.noted _ ratio_operands c.tone_number-tone.ensures c.if-header-tone.false c.if-noted-gt0.false os)
+    rw (c.tone_number-tone.ensures, c.number_width.ensures.0) at (c.from_ratio.ensures (known_at a.s.now a.noted.own rest high))
+    ∙ sym (from-tone a.header a.s.now a.at a.code a.noted.own rest high _ ratio_operands c.tone_number-tone.ensures c.if-header-tone.false c.if-noted-gt0.false os)
 
 pub returns-in_default : goal.returns-in_default
-returns-in_default c =
+returns-in_default c = λ rest high.
     let a = c.args in
     let os = whole_numbers (goal.at.returns-in_default c).In_default in
-    rw (c.tone_number-tone.ensures, c.number_width.ensures.0) at (c.from_numbers.ensures a.header (known_noted a.s.now a.noted))
-    ∙ sym (from-tone a.header a.s.now a.at a.code a.noted _ (numbers (eqb c.short_of.result 5)) c.tone_number-tone.ensures c.if-header-tone.false c.if-noted-gt0.false os)
+    rw (c.tone_number-tone.ensures, c.number_width.ensures.0) at (c.from_numbers.ensures a.header (known_at a.s.now a.noted.own rest high))
+    ∙ sym (from-tone a.header a.s.now a.at a.code a.noted.own rest high _ (numbers (eqb c.short_of.result 5)) c.tone_number-tone.ensures c.if-header-tone.false c.if-noted-gt0.false os)
